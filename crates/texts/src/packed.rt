@@ -1,0 +1,74 @@
+ghost use mathlib.Core.Path.{_≡_};
+ghost use Prim.Native.Nat.{_<_};
+ghost use lib.ListN.{length};
+ghost use denote.Ref.{now as behind};
+ghost use Rattle.std.specs.shelf.Maps.{nth};
+ghost use Rattle.texts.specs.Lists.{half-digit, packed-list, packed-cut};
+ghost use Rattle.texts.specs.Short.{packed-short};
+use crate::text::Text;
+
+// The most bytes that a packed text takes.
+const MOST_BYTES: usize = 32_767;
+
+/// The caller's bytes, each of them two hexadecimal digits: its high half, then its low half.
+#[derive(Clone, Copy)]
+pub struct Packed<'a> {
+    bytes: &'a [u8],
+    // fixed when the text is made
+    count: usize,
+    ghost counted: { count ≡ length (packed-list (behind bytes)) },
+}
+
+impl<'a> Packed<'a> {
+    /// The text of these bytes.
+    pub fn new(bytes: &'a [u8]) -> Packed<'a>
+        ensures { λ r. ⌜ now (r .bytes) ≡ now (bytes .entry) ⌝ }
+    {
+        let taken = bytes.len().min(MOST_BYTES);
+        Packed { bytes, count: 2 * taken }
+    }
+}
+
+// The digit of one half of a byte.
+fn digit(half: u8) -> u8
+    requires { ⌜ half < 16 ⌝ }
+    ensures { λ r. ⌜ r ≡ half-digit half ⌝ }
+{
+    if half <= 9 { 48 + half } else { 55 + half }
+}
+
+pub impl<'a> Text for Packed<'a> as PackedText {
+    type Symbol = u8;
+
+    ghost list = { λ t. packed-list (behind (t .bytes)) };
+
+    ghost cut = { λ t. packed-cut (behind (t .bytes)) };
+
+    ghost short = { λ t. packed-short (behind (t .bytes)) };
+
+    fn len(&self) -> usize
+        ensures { λ r. ⌜ r ≡ length (packed-list (now (now (self .entry) .bytes))) ⌝ }
+    {
+        self.count
+    }
+
+    fn symbol(&self, place: usize) -> Option<u8>
+        ensures { λ r. ⌜ r ≡ nth (packed-list (now (now (self .entry) .bytes))) place ⌝ }
+    {
+        if place >= self.count {
+            return None;
+        }
+        let byte = self.bytes[place / 2];
+        if place % 2 == 0 {
+            Some(digit(byte / 16))
+        } else {
+            Some(digit(byte % 16))
+        }
+    }
+
+    fn is_cut(&self) -> bool
+        ensures { λ r. ⌜ r ≡ packed-cut (now (now (self .entry) .bytes)) ⌝ }
+    {
+        self.bytes.len() > MOST_BYTES
+    }
+}
