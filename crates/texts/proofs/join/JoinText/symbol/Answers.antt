@@ -5,8 +5,8 @@ use native.Mathlib.Omega.{arith}
 use Rattle.texts.proofs.Nth.{nth-take, nth-take-past, nth-front, nth-back}
 use Rattle.texts.proofs.join.JoinText.symbol.Needs as need
 
-pub returns-then-place-ge-MOST_SYMBOLS : need.returns-then-place-ge-MOST_SYMBOLS
-returns-then-place-ge-MOST_SYMBOLS g c =
+pub returns-then-place-ge-MOST-SYMBOLS : need.returns-then-place-ge-MOST-SYMBOLS
+returns-then-place-ge-MOST-SYMBOLS g c =
     let front = g .A·Text .list (c .args .self .now .front) in
     let back = g .B·Text .list (c .args .self .now .back) in
     sym (nth-take-past 65535 (front ++ back) (c .args .place) (omega arith))

@@ -5,8 +5,8 @@ use Rattle.std.proofs.shelf.Maps.{nth-getD, nth-past}
 use Rattle.texts.proofs.Nth.{nth-take}
 use Rattle.texts.proofs.plain.PlainText.symbol.Needs as need
 
-pub returns-then-place-lt-MOST_SYMBOLS : need.returns-then-place-lt-MOST_SYMBOLS
-returns-then-place-lt-MOST_SYMBOLS g c =
+pub returns-then-place-lt-MOST-SYMBOLS : need.returns-then-place-lt-MOST-SYMBOLS
+returns-then-place-lt-MOST-SYMBOLS g c =
     let xs = c .args .self .now .symbols .now in
     sym (nth-take 65535 xs (c .args .place) (omega arith) ∙ nth-getD xs (c .args .place) _ (omega arith))
 
