@@ -1,0 +1,75 @@
+//! An operator's look at one field of a packed record.
+//!
+//! Packed digits come on standard input; two arguments say how many symbols to skip and how many to
+//! show. Prints what was taken, the field, and the bill of a station that was served a list of calls.
+
+mod field;
+
+use field::Field;
+use field::symbols_of;
+use kinds::ByteKind;
+use kinds::ByteKindKind;
+use station::Answer;
+use station::Request;
+use station::serve;
+use std::env;
+use std::error::AnyError;
+use std::io::Read;
+use texts::Packed;
+use texts::PackedText;
+use texts::Text;
+use texts::Window;
+use texts::WindowText;
+
+const EXPECTED: &str = "expected two numbers from 0 to 65535: symbols to skip, symbols to show";
+
+// One byte more than a packed text takes, so that a longer input is seen to be cut.
+const MOST_INPUT: u64 = 32_768;
+
+fn main(rt: LibcRuntime) -> Result<(), AnyError> {
+    let outcome = run(&rt);
+    if let Err(error) = &outcome {
+        eprintln!(rt, "field: {error}")?;
+    }
+    outcome
+}
+
+fn run(rt: &LibcRuntime) -> Result<(), AnyError> {
+    let field = asked_field(rt)?;
+    let mut bytes = Vec::new(rt.alloc());
+    rt.stdin().take(MOST_INPUT).read_to_end(&mut bytes)?;
+    show_field(rt, bytes.as_slice(), field)?;
+    show_bill(rt)
+}
+
+fn asked_field(rt: &LibcRuntime) -> Result<Field, AnyError> {
+    let mut words = env::args(rt)?;
+    let _program = words.next();
+    match (words.next(), words.next(), words.next()) {
+        (Some(skip), Some(size), None) => Field::parse(skip.as_str(), size.as_str()).ok_or(EXPECTED.into()),
+        _ => Err(EXPECTED.into()),
+    }
+}
+
+fn show_field(rt: &LibcRuntime, bytes: &[u8], field: Field) -> Result<(), AnyError> {
+    let text = Packed::new(bytes);
+    let cut = if text.is_cut() { "cut" } else { "not cut" };
+    println!(rt, "bytes: {}, {cut}", text.len() / 2)?;
+    println!(rt, "symbols: {}", text.len())?;
+    let window = Window { below: text, skip: field.skip, size: field.size };
+    let symbols = symbols_of(rt.alloc(), &window)?;
+    println!(rt, "field: {}", std::str::from_utf8(symbols.as_slice())?)?;
+    Ok(())
+}
+
+fn show_bill(rt: &LibcRuntime) -> Result<(), AnyError> {
+    let requests = [Request::Bill, Request::Settle, Request::Bill];
+    let mut answers = [Answer::Total(0); 3];
+    let served = serve(ByteKind, &requests, &mut answers);
+    println!(rt, "calls served: {served}")?;
+    for answer in answers {
+        let Answer::Total(steps) = answer;
+        println!(rt, "total: {steps}")?;
+    }
+    Ok(())
+}
