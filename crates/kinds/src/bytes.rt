@@ -23,7 +23,9 @@ pub impl Kind for ByteKind as ByteKindKind {
         class.first <= class.second && class.second <= LAST_BYTE
     }
 
-    fn contains(&self, class: Class, symbol: u8) -> bool {
+    fn contains(&self, class: Class, symbol: u8) -> bool
+        ensures { λ r. ⌜ r ≡ byte-contains class symbol ⌝ }
+    {
         let symbol = u32::from(symbol);
         self.is_lawful(class) && class.first <= symbol && symbol <= class.second
     }

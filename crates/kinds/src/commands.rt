@@ -27,7 +27,7 @@ impl Header {
     }
 }
 
-/// Command headers; a class is a mask (first) and a value (second).
+/// Command headers; a class is a mask (first) and a value (second) that has no bit outside the mask.
 #[derive(Clone, Copy, PartialEq, Eq, Debug)]
 pub struct CommandKind;
 
@@ -38,11 +38,15 @@ pub impl Kind for CommandKind as CommandKindKind {
 
     ghost contains = { λ _ c h. command-contains c (h .number) };
 
-    fn is_lawful(&self, class: Class) -> bool {
+    fn is_lawful(&self, class: Class) -> bool
+        ensures { λ r. ⌜ r ≡ command-lawful class ⌝ }
+    {
         class.second & class.first == class.second
     }
 
-    fn contains(&self, class: Class, symbol: Header) -> bool {
+    fn contains(&self, class: Class, symbol: Header) -> bool
+        ensures { λ r. ⌜ r ≡ command-contains class (symbol .number) ⌝ }
+    {
         self.is_lawful(class) && symbol.number & class.first == class.second
     }
 }

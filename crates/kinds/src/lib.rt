@@ -8,6 +8,8 @@ mod bytes;
 mod class;
 mod commands;
 mod kind;
+#[cfg(test)]
+mod tests;
 
 pub use bytes::ByteKind;
 pub use bytes::ByteKindKind;

@@ -7,6 +7,8 @@
 mod request;
 mod serving;
 mod state;
+#[cfg(test)]
+mod tests;
 
 pub use request::Answer;
 pub use request::Request;

@@ -6,7 +6,7 @@ use native.Mathlib.Omega.{arith}
 use native.Mathlib.Nat.{zero-add, suc-add}
 use native.Mathlib.Numerals.{add-one}
 use lib.ListN.{length, take, drop, getD, set, length-take}
-use lib.Seq.{getD-take}
+use lib.Seq.{getD-take, take-all}
 use Rattle.std.specs.shelf.Maps.{nth}
 use Rattle.std.specs.declared.option.Option.the-variants.{Some, None}
 use Rattle.texts.specs.Lists.{half-digit, digits, packed-list}
@@ -96,3 +96,15 @@ pub none-past : {X : Type 0} (xs : List X) (i : ℕ) → nth xs i ≡ None → l
 none-past [] i e = omega arith
 none-past (x ∷ xs) zero e = let z : _≡_ {A = ℕ} 0 1 = cc in absurd (omega arith)
 none-past (x ∷ xs) (suc i) e = let h = none-past xs i e in omega arith
+
+-- Taking as many as there are, up to a limit, is taking up to the limit.
+pub take-within : {X : Type 0} (n m : ℕ) (xs : List X) → n ≡ min (length xs) m → take n xs ≡ take m xs
+take-within zero zero xs e = refl
+take-within zero (suc m) [] e = refl
+take-within zero (suc m) (x ∷ xs) e = absurd (omega arith)
+take-within (suc n) zero xs e = absurd (omega arith)
+take-within (suc n) (suc m) [] e = refl
+take-within (suc n) (suc m) (x ∷ xs) e = ap (λ v. x ∷ v) (take-within n m xs (omega arith))
+
+pub taken-packed : (n : ℕ) (bytes : List ℕ) → n ≡ min (length bytes) 32767 → packed-list (take n bytes) ≡ packed-list bytes
+taken-packed n bytes e = ap digits (take-all 32767 (take n bytes) (simp length-take (omega arith)) ∙ take-within n 32767 bytes e)

@@ -9,6 +9,8 @@ mod either;
 mod join;
 mod packed;
 mod plain;
+#[cfg(test)]
+mod tests;
 mod text;
 mod window;
 
@@ -17,6 +19,7 @@ pub use either::Either;
 pub use either::EitherText;
 pub use join::Join;
 pub use join::JoinText;
+pub use packed::MOST_BYTES;
 pub use packed::Packed;
 pub use packed::PackedText;
 pub use plain::Plain;

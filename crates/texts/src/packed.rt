@@ -1,31 +1,32 @@
 ghost use mathlib.Core.Path.{_≡_};
 ghost use Prim.Native.Nat.{_<_};
-ghost use lib.ListN.{length};
+ghost use lib.ListN.{length, take};
 ghost use denote.Ref.{now as behind};
 ghost use Rattle.std.specs.shelf.Maps.{nth};
 ghost use Rattle.texts.specs.Lists.{half-digit, packed-list, packed-cut};
 ghost use Rattle.texts.specs.Short.{packed-short};
 use crate::text::Text;
 
-// The most bytes that a packed text takes.
-const MOST_BYTES: usize = 32_767;
+/// The most bytes that a packed text takes.
+pub const MOST_BYTES: usize = 32_767;
 
 /// The caller's bytes, each of them two hexadecimal digits: its high half, then its low half.
 #[derive(Clone, Copy)]
 pub struct Packed<'a> {
+    // what was taken when the text was made: its length is fixed from then on
     bytes: &'a [u8],
-    // fixed when the text is made
-    count: usize,
-    ghost counted: { count ≡ length (packed-list (behind bytes)) },
+    cut: bool,
 }
 
 impl<'a> Packed<'a> {
     /// The text of these bytes.
     pub fn new(bytes: &'a [u8]) -> Packed<'a>
-        ensures { λ r. ⌜ now (r .bytes) ≡ now (bytes .entry) ⌝ }
+        ensures taken { λ r. ⌜ now (r .bytes) ≡ take 32767 (now (bytes .entry)) ⌝ }
+        ensures list { λ r. ⌜ packed-list (now (r .bytes)) ≡ packed-list (now (bytes .entry)) ⌝ }
+        ensures cut { λ r. ⌜ r .cut ≡ packed-cut (now (bytes .entry)) ⌝ }
     {
         let taken = bytes.len().min(MOST_BYTES);
-        Packed { bytes, count: 2 * taken }
+        Packed { bytes: &bytes[0..taken], cut: bytes.len() > MOST_BYTES }
     }
 }
 
@@ -42,20 +43,20 @@ pub impl<'a> Text for Packed<'a> as PackedText {
 
     ghost list = { λ t. packed-list (behind (t .bytes)) };
 
-    ghost cut = { λ t. packed-cut (behind (t .bytes)) };
+    ghost cut = { λ t. t .cut };
 
     ghost short = { λ t. packed-short (behind (t .bytes)) };
 
     fn len(&self) -> usize
         ensures { λ r. ⌜ r ≡ length (packed-list (now (now (self .entry) .bytes))) ⌝ }
     {
-        self.count
+        2 * self.bytes.len().min(MOST_BYTES)
     }
 
     fn symbol(&self, place: usize) -> Option<u8>
         ensures { λ r. ⌜ r ≡ nth (packed-list (now (now (self .entry) .bytes))) place ⌝ }
     {
-        if place >= self.count {
+        if place >= self.len() {
             return None;
         }
         let byte = self.bytes[place / 2];
@@ -67,8 +68,8 @@ pub impl<'a> Text for Packed<'a> as PackedText {
     }
 
     fn is_cut(&self) -> bool
-        ensures { λ r. ⌜ r ≡ packed-cut (now (now (self .entry) .bytes)) ⌝ }
+        ensures { λ r. ⌜ r ≡ now (self .entry) .cut ⌝ }
     {
-        self.bytes.len() > MOST_BYTES
+        self.cut
     }
 }

@@ -6,20 +6,20 @@ use Rattle.texts.specs.Lists.{packed-list}
 use Rattle.texts.proofs.Nth.{length-packed, packed-high, packed-low}
 use Rattle.texts.proofs.packed.PackedText.symbol.Needs as need
 
-pub returns-then-place-self : need.returns-then-place-self
-returns-then-place-self c =
-    sym (nth-past (packed-list (c .args .self .now .bytes .now)) (c .args .place) (omega (arith, c .args .self .now .counted)))
+pub returns-then-place-len : need.returns-then-place-len
+returns-then-place-len c =
+    sym (nth-past (packed-list (c .args .self .now .bytes .now)) (c .args .place) (omega (arith, c .len .ensures)))
 
 pub index-self-place : need.index-self-place
 index-self-place c =
-    omega (arith, c .args .self .now .counted, length-packed (c .args .self .now .bytes .now))
+    omega (arith, c .len .ensures, length-packed (c .args .self .now .bytes .now))
 
 pub returns-then-place-eq0 : need.returns-then-place-eq0
 returns-then-place-eq0 c =
     ap Some (c .digit .ensures)
-    ∙ sym (packed-high (c .args .self .now .bytes .now) (c .args .place) (omega (arith, c .args .self .now .counted)) (omega arith))
+    ∙ sym (packed-high (c .args .self .now .bytes .now) (c .args .place) (omega (arith, c .len .ensures)) (omega arith))
 
 pub returns-else-place-eq0 : need.returns-else-place-eq0
 returns-else-place-eq0 c =
     ap Some (c .digit-else-place-eq0 .ensures)
-    ∙ sym (packed-low (c .args .self .now .bytes .now) (c .args .place) (omega (arith, c .args .self .now .counted)) (λ even. omega arith))
+    ∙ sym (packed-low (c .args .self .now .bytes .now) (c .args .place) (omega (arith, c .len .ensures)) (λ even. omega arith))
