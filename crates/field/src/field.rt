@@ -1,6 +1,9 @@
 ghost use mathlib.Core.Path.{_≡_};
+ghost use Prim.Native.Nat.{ℕ};
 ghost use Rattle.std.specs.Of.Vec.{vec-items};
+ghost use Rattle.std.specs.Options.{Cases as BySome};
 ghost use Rattle.std.specs.Vec.{made};
+ghost use Rattle.field.specs.Words.{Number};
 use std::alloc::AllocError;
 use std::alloc::Global;
 use texts::Text;
@@ -14,12 +17,17 @@ pub struct Field {
 }
 
 impl Field {
-    /// Two numbers from 0 to 65,535, or nothing.
-    pub fn parse(skip: &str, size: &str) -> Option<Field> {
-        match (skip.parse::<u16>(), size.parse::<u16>()) {
-            (Ok(skip), Ok(size)) => Some(Field { skip, size }),
-            _ => None,
-        }
+    /// The field that two words ask for, each a number from 0 to 65,535; nothing if one is not.
+    pub fn parse(skip: &str, size: &str) -> Option<Field>
+        ensures { λ r. ⌜ BySome r ((m n : ℕ) → Number (now (skip .entry)) m → Number (now (size .entry)) n → ⊥) (λ f. Number (now (skip .entry)) (f .skip) × Number (now (size .entry)) (f .size)) ⌝ }
+    {
+        let Ok(skip) = skip.parse::<u16>() else {
+            return None;
+        };
+        let Ok(size) = size.parse::<u16>() else {
+            return None;
+        };
+        Some(Field { skip, size })
     }
 }
 

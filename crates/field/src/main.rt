@@ -4,6 +4,8 @@
 //! show. Prints what was taken, the field, and the bill of a station that was served a list of calls.
 
 mod field;
+#[cfg(test)]
+mod tests;
 
 use field::Field;
 use field::symbols_of;
@@ -46,7 +48,10 @@ fn asked_field(rt: &LibcRuntime) -> Result<Field, AnyError> {
     let mut words = env::args(rt)?;
     let _program = words.next();
     match (words.next(), words.next(), words.next()) {
-        (Some(skip), Some(size), None) => Field::parse(skip.as_str(), size.as_str()).ok_or(EXPECTED.into()),
+        (Some(skip), Some(size), None) => Field::parse(
+            skip.as_str(),
+            size.as_str(),
+        ).ok_or(EXPECTED.into()),
         _ => Err(EXPECTED.into()),
     }
 }
@@ -56,7 +61,11 @@ fn show_field(rt: &LibcRuntime, bytes: &[u8], field: Field) -> Result<(), AnyErr
     let cut = if text.is_cut() { "cut" } else { "not cut" };
     println!(rt, "bytes: {}, {cut}", text.len() / 2)?;
     println!(rt, "symbols: {}", text.len())?;
-    let window = Window { below: text, skip: field.skip, size: field.size };
+    let window = Window {
+        below: text,
+        skip: field.skip,
+        size: field.size,
+    };
     let symbols = symbols_of(rt.alloc(), &window)?;
     println!(rt, "field: {}", std::str::from_utf8(symbols.as_slice())?)?;
     Ok(())

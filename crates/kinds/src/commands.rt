@@ -16,7 +16,9 @@ impl Header {
     {
         let upper = u32::from(cla) * 256 + u32::from(ins);
         let lower = u32::from(p1) * 256 + u32::from(p2);
-        Header { number: upper * 65_536 + lower }
+        Header {
+            number: upper * 65_536 + lower,
+        }
     }
 
     /// The header as one number.

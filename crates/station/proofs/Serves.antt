@@ -37,7 +37,8 @@ pub serving-none : {K S : Type 0} {kind : K} {station : Station K} (answers : Li
 serving-none answers stands = record {
   lawful = none;
   stands = record { kind-is = refl; sum-is = stands .sum-is; reads-is = stands .reads-is };
-  same = refl }
+  same = refl;
+}
 
 pub serving-more : {K S : Type 0} {kind : K} {station after : Station K} (xs : List Request) (ys first : List Answer) (i : ℕ) (d : Request) (y : Answer) →
     i < length xs → i < length ys → i < length first → Keeps {S = S} station (call-of (getD xs i d)) (reply-of y) after →
@@ -46,11 +47,12 @@ pub serving-more : {K S : Type 0} {kind : K} {station after : Station K} (xs : L
 serving-more {S = S} {kind = kind} {station = station} {after = after} xs ys first i d y a b f keeps so-far =
     let due = keeps kind (served (take i xs) (take i ys)) (so-far .stands) in
     let log : _≡_ {A = Log S} ((call-of (getD xs i d), reply-of y) ∷ served (take i xs) (take i ys)) (served (take (i + 1) xs) (take (i + 1) (set ys i y))) =
-      rw add-one (sym (grown xs ys i d y [] a b)) in
+    rw add-one (sym (grown xs ys i d y [] a b)) in
     record {
       lawful = subst Lawful log (more (so-far .lawful) (due .0));
       stands = subst (Stands kind after) log (due .1);
-      same = rw add-one (untouched ys first i y (so-far .same) b f) }
+      same = rw add-one (untouched ys first i y (so-far .same) b f);
+    }
 
 -- A promise about a call holds of the request that makes it.
 pub as-asked : {K S : Type 0} {before after : Station K} {request made : Request} {reply : Reply} → request ≡ made →

@@ -19,4 +19,4 @@ Keeps {K} {S} before call reply after =
 pub data Linked {K S : Type 0} (first : Station K) : Station K → Log S → Type 0 where
   start : Linked first first []
   next : {before after : Station K} {call : Call S} {reply : Reply} {log : Log S} →
-    Linked first before log → Keeps before call reply after → Linked first after ((call, reply) ∷ log)
+      Linked first before log → Keeps before call reply after → Linked first after ((call, reply) ∷ log)

@@ -31,4 +31,4 @@ pub record Law (S : Type 0) : Type 0 where
   pub replies : (log other : Log S) → Lawful log → Lawful other → asked log ≡ asked other → log ≡ other
   -- a total that was answered is the sum of the charges since the last settle, or since the station was made
   pub totals : (later since before : Log S) (call : Call S) (n : ℕ) →
-    Lawful (later ++ ((call, total n) ∷ (since ++ before))) → Unsettled since → Fresh before → n ≡ charges since
+      Lawful (later ++ ((call, total n) ∷ (since ++ before))) → Unsettled since → Fresh before → n ≡ charges since

@@ -30,5 +30,8 @@ fn serve_stops_where_the_answers_do() -> Result<(), Fail> {
 fn serve_leaves_later_answers() -> Result<(), Fail> {
     let mut answers = [Answer::Total(9); 3];
     check_eq(serve(ByteKind, &[Request::Settle], &mut answers), 1)?;
-    check_eq(answers, [Answer::Total(0), Answer::Total(9), Answer::Total(9)])
+    check_eq(
+        answers,
+        [Answer::Total(0), Answer::Total(9), Answer::Total(9)],
+    )
 }

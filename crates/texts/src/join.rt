@@ -46,6 +46,8 @@ pub impl<A: Text, B: Text<Symbol = A::Symbol>> Text for Join<A, B> as JoinText {
     fn is_cut(&self) -> bool
         ensures { λ r. ⌜ r ≡ join-cut (A·Text .cut (now (self .entry) .front)) (B·Text .cut (now (self .entry) .back)) (A·Text .list (now (self .entry) .front)) (B·Text .list (now (self .entry) .back)) ⌝ }
     {
-        self.front.is_cut() || self.back.is_cut() || self.front.len() + self.back.len() > MOST_SYMBOLS
+        self.front.is_cut()
+            || self.back.is_cut()
+            || self.front.len() + self.back.len() > MOST_SYMBOLS
     }
 }

@@ -26,7 +26,10 @@ impl<'a> Packed<'a> {
         ensures cut { λ r. ⌜ r .cut ≡ packed-cut (now (bytes .entry)) ⌝ }
     {
         let taken = bytes.len().min(MOST_BYTES);
-        Packed { bytes: &bytes[0..taken], cut: bytes.len() > MOST_BYTES }
+        Packed {
+            bytes: &bytes[0..taken],
+            cut: bytes.len() > MOST_BYTES,
+        }
     }
 }
 

@@ -44,7 +44,10 @@ fn packed_takes_32767_bytes() -> Result<(), Fail> {
 #[test]
 fn packed_gives_the_high_half_first() -> Result<(), Fail> {
     let mut digits = [0u8; 9];
-    check_eq(copy_symbols(&Packed::new(&[0x09, 0xaf, 0x90, 0xfa]), &mut digits), 8)?;
+    check_eq(
+        copy_symbols(&Packed::new(&[0x09, 0xaf, 0x90, 0xfa]), &mut digits),
+        8,
+    )?;
     check_eq(digits, *b"09AF90FA\0")?;
     check_eq(Packed::new(&[]).len(), 0)?;
     check_eq(Packed::new(&[]).symbol(0), None)
@@ -53,15 +56,54 @@ fn packed_gives_the_high_half_first() -> Result<(), Fail> {
 #[test]
 fn window_at_its_edges() -> Result<(), Fail> {
     let below = Plain::new(b"abcde");
-    check_eq(Window { below, skip: 0, size: 0 }.len(), 0)?;
-    check_eq(Window { below, skip: 0, size: 65_535 }.len(), 5)?;
-    check_eq(Window { below, skip: 65_535, size: 65_535 }.len(), 0)?;
-    check_eq(Window { below, skip: 65_535, size: 65_535 }.symbol(0), None)?;
-    let middle = Window { below, skip: 1, size: 3 };
+    check_eq(
+        Window {
+            below,
+            skip: 0,
+            size: 0,
+        }.len(),
+        0,
+    )?;
+    check_eq(
+        Window {
+            below,
+            skip: 0,
+            size: 65_535,
+        }.len(),
+        5,
+    )?;
+    check_eq(
+        Window {
+            below,
+            skip: 65_535,
+            size: 65_535,
+        }.len(),
+        0,
+    )?;
+    check_eq(
+        Window {
+            below,
+            skip: 65_535,
+            size: 65_535,
+        }.symbol(0),
+        None,
+    )?;
+    let middle = Window {
+        below,
+        skip: 1,
+        size: 3,
+    };
     check_eq(middle.len(), 3)?;
     check_eq(middle.symbol(2), Some(b'd'))?;
     check_eq(middle.symbol(3), None)?;
-    check_eq(Window { below, skip: 4, size: 3 }.symbol(1), None)?;
+    check_eq(
+        Window {
+            below,
+            skip: 4,
+            size: 3,
+        }.symbol(1),
+        None,
+    )?;
     check_eq(middle.symbol(usize::MAX), None)
 }
 
@@ -69,10 +111,18 @@ fn window_at_its_edges() -> Result<(), Fail> {
 fn window_is_cut_as_the_text_below() -> Result<(), Fail> {
     let symbols = [0u8; 65_536];
     let below = Plain::new(&symbols);
-    let cut = Window { below, skip: 0, size: 1 };
+    let cut = Window {
+        below,
+        skip: 0,
+        size: 1,
+    };
     check(cut.is_cut())?;
     let below = Plain::new(b"abc");
-    let whole = Window { below, skip: 0, size: 1 };
+    let whole = Window {
+        below,
+        skip: 0,
+        size: 1,
+    };
     check(!whole.is_cut())
 }
 
@@ -80,10 +130,16 @@ fn window_is_cut_as_the_text_below() -> Result<(), Fail> {
 fn join_takes_65535_symbols() -> Result<(), Fail> {
     let symbols = [1u8; 65_535];
     let full = Plain::new(&symbols);
-    let exact = Join { front: full, back: Plain::new(b"") };
+    let exact = Join {
+        front: full,
+        back: Plain::new(b""),
+    };
     check_eq(exact.len(), 65_535)?;
     check(!exact.is_cut())?;
-    let over = Join { front: full, back: Plain::new(b"z") };
+    let over = Join {
+        front: full,
+        back: Plain::new(b"z"),
+    };
     check_eq(over.len(), 65_535)?;
     check(over.is_cut())?;
     check_eq(over.symbol(65_534), Some(1))?;
@@ -94,7 +150,14 @@ fn join_takes_65535_symbols() -> Result<(), Fail> {
 fn join_is_cut_if_its_front_is() -> Result<(), Fail> {
     let bytes = [0u8; 32_768];
     let cut = Packed::new(&bytes);
-    let join = Join { front: Window { below: cut, skip: 0, size: 1 }, back: Plain::new(b"a") };
+    let join = Join {
+        front: Window {
+            below: cut,
+            skip: 0,
+            size: 1,
+        },
+        back: Plain::new(b"a"),
+    };
     check_eq(join.len(), 2)?;
     check(join.is_cut())
 }
@@ -103,18 +166,39 @@ fn join_is_cut_if_its_front_is() -> Result<(), Fail> {
 fn join_is_cut_if_its_back_is() -> Result<(), Fail> {
     let bytes = [0u8; 32_768];
     let cut = Packed::new(&bytes);
-    let join = Join { front: Plain::new(b"a"), back: Window { below: cut, skip: 0, size: 1 } };
+    let join = Join {
+        front: Plain::new(b"a"),
+        back: Window {
+            below: cut,
+            skip: 0,
+            size: 1,
+        },
+    };
     check_eq(join.len(), 2)?;
     check(join.is_cut())
 }
 
 #[test]
 fn windows_and_joins_pile_up() -> Result<(), Fail> {
-    let greeting = Join { front: Plain::new(b"hello"), back: Plain::new(b" world") };
-    let digits = Join { front: Packed::new(&[0x12, 0x34]), back: Packed::new(&[0xab]) };
+    let greeting = Join {
+        front: Plain::new(b"hello"),
+        back: Plain::new(b" world"),
+    };
+    let digits = Join {
+        front: Packed::new(&[0x12, 0x34]),
+        back: Packed::new(&[0xab]),
+    };
     let pile = Join {
-        front: Window { below: greeting, skip: 3, size: 4 },
-        back: Window { below: digits, skip: 2, size: 9 },
+        front: Window {
+            below: greeting,
+            skip: 3,
+            size: 4,
+        },
+        back: Window {
+            below: digits,
+            skip: 2,
+            size: 9,
+        },
     };
     let mut out = [b'.'; 10];
     check_eq(copy_symbols(&pile, &mut out), 8)?;

@@ -17,7 +17,11 @@ impl<K: Kind> Station<K> {
         ensures linked { λ r. ⌜ ((s : Station K) (log : Log K·Symbol) → Linked r s log → Lawful log × Stands kind s log) ⌝ }
         ensures law { λ r. ⌜ Law K·Symbol ⌝ }
     {
-        Station { kind, sum: 0, reads: 0 }
+        Station {
+            kind,
+            sum: 0,
+            reads: 0,
+        }
     }
 
     /// The steps on the bill.

@@ -22,4 +22,5 @@ returns g c =
       count = c .min-count .ensures;
       lawful = subst (λ n. Lawful {S = g .K·Symbol .Denot} (served (take n (c .args .requests .now)) (take n (c .loop-i .answers)))) all (c .loop-i .inv .lawful);
       untouched = subst (λ n. drop n (c .loop-i .answers) ≡ drop n (c .args .answers .now)) all (c .loop-i .inv .same);
-      law = c .new-station .ensures .law }
+      law = c .new-station .ensures .law;
+    }

@@ -8,4 +8,5 @@ returns g c = record {
   made = search needs;
   stands = search needs;
   linked = λ s log link. linked-lawful (c .args .kind) (search needs) link;
-  law = the-law (g .K·Symbol .Denot) }
+  law = the-law (g .K·Symbol .Denot);
+}

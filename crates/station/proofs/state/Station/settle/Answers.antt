@@ -6,4 +6,5 @@ pub returns : need.returns
 returns g c = record {
   keeps = λ kind log stands. (settled (search needs), search needs);
   sum = search needs;
-  anew = search needs }
+  anew = search needs;
+}
