@@ -23,6 +23,12 @@ nth-take-past (suc n) [] i h = refl
 nth-take-past (suc n) (x ∷ xs) zero h = absurd (omega arith)
 nth-take-past (suc n) (x ∷ xs) (suc i) h = nth-take-past n xs i (omega arith)
 
+pub nth-taken : {X : Type 0} (n : ℕ) (xs : List X) (i : ℕ) (d : X) → i < length (take n xs) → Some (getD xs i d) ≡ nth (take n xs) i
+nth-taken zero xs i d h = absurd (omega arith)
+nth-taken (suc n) [] i d h = absurd (omega arith)
+nth-taken (suc n) (x ∷ xs) zero d h = refl
+nth-taken (suc n) (x ∷ xs) (suc i) d h = nth-taken n xs i d (omega arith)
+
 pub nth-drop : {X : Type 0} (n : ℕ) (xs : List X) (i : ℕ) → nth (drop n xs) i ≡ nth xs (n + i)
 nth-drop zero xs i = ap (nth xs) (sym (zero-add i))
 nth-drop (suc n) [] i = refl

@@ -20,7 +20,8 @@ filled-whole xs out before rest n r filled count same size =
 
 pub returns : need.returns
 returns g c =
+    let made = c .in-Continue-symbols .ensures tt .made .1 in
     filled-whole (g .T·Text .list (c .args .text .now)) _ (c .as-mut-slice .result .now) _ _ (c .copy-symbols .result)
     (c .copy-symbols .ensures .filled) (c .copy-symbols .ensures .count)
-    (c .as-mut-slice .ensures .len ∙ c .in-Continue-symbols .ensures tt .made .1 ∙ c .len .ensures)
-    (c .in-Continue-symbols .ensures tt .made .1 ∙ c .len .ensures)
+    (omega (arith, c .as-mut-slice .ensures .len, made, c .len .ensures))
+    (omega (arith, made, c .len .ensures))

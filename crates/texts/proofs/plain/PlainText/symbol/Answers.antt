@@ -1,16 +1,17 @@
-use mathlib.Core.Path.{sym, _∙_}
+use mathlib.Core.Path.{sym}
 use native.Mathlib.Omega.{arith}
-use lib.ListN.{take, length-take}
-use Rattle.std.proofs.shelf.Maps.{nth-getD, nth-past}
-use Rattle.texts.proofs.Nth.{nth-take}
+use lib.ListN.{length-take}
+use Rattle.std.proofs.shelf.Maps.{nth-past}
+use Rattle.texts.specs.Lists.{plain-list}
+use Rattle.texts.proofs.Nth.{nth-taken}
 use Rattle.texts.proofs.plain.PlainText.symbol.Needs as need
 
 pub returns-then-place-lt-MOST-SYMBOLS : need.returns-then-place-lt-MOST-SYMBOLS
 returns-then-place-lt-MOST-SYMBOLS g c =
     let xs = c .args .self .now .symbols .now in
-    sym (nth-take 65535 xs (c .args .place) (omega arith) ∙ nth-getD xs (c .args .place) _ (omega arith))
+    let there = nth-taken 65535 xs (c .args .place) (c .index-self-place .result) (simp length-take (omega arith)) in
+    cc
 
 pub returns-else-place-self : need.returns-else-place-self
 returns-else-place-self g c =
-    let xs = c .args .self .now .symbols .now in
-    sym (nth-past (take 65535 xs) (c .args .place) (simp length-take (omega arith)))
+    sym (nth-past (plain-list (c .args .self .now .symbols .now)) (c .args .place) (simp length-take (omega arith)))
