@@ -71,14 +71,22 @@ fn show_field(rt: &LibcRuntime, bytes: &[u8], field: Field) -> Result<(), AnyErr
     Ok(())
 }
 
+// What a station answers to a look at the bill, its settling, and another look.
 fn show_bill(rt: &LibcRuntime) -> Result<(), AnyError> {
     let requests = [Request::Bill, Request::Settle, Request::Bill];
     let mut answers = [Answer::Total(0); 3];
     let served = serve(ByteKind, &requests, &mut answers);
-    println!(rt, "calls served: {served}")?;
-    for answer in answers {
+    println!(rt, "calls: {served}")?;
+    for (request, answer) in requests.iter().zip(answers.iter()) {
         let Answer::Total(steps) = answer;
-        println!(rt, "total: {steps}")?;
+        println!(rt, "{}: {steps}", name(*request))?;
     }
     Ok(())
+}
+
+fn name(request: Request) -> &'static str {
+    match request {
+        Request::Bill => "bill",
+        Request::Settle => "settle",
+    }
 }

@@ -55,8 +55,8 @@ module _ {S : Type 0} where
 
 pub the-law : (S : Type 0) → Law S
 the-law S = record {
-  one-reply = λ log call. let due = due-some log call in (due .0, due .1, λ other d. due-one d (due .1));
-  replies = λ log other l m e. replies-decided l m e;
-  totals = λ later since before call n l u f.
+  one-reply-is-due = λ log call. let due = due-some log call in (due .0, due .1, λ other d. due-one d (due .1));
+  calls-decide-replies = λ log other l m e. replies-decided l m e;
+  bill-is-the-charges = λ later since before call n l u f.
       total-is-owed (newest-due (before-lawful later l)) ∙ owed-is-charges u f;
 }

@@ -26,9 +26,9 @@ pub data Fresh {S : Type 0} : Log S → Type 0 where
 
 pub record Law (S : Type 0) : Type 0 where
   -- to each call after each log exactly one reply is due
-  pub one-reply : (log : Log S) (call : Call S) → (reply : Reply) × Due log call reply × ((other : Reply) → Due log call other → other ≡ reply)
+  pub one-reply-is-due : (log : Log S) (call : Call S) → (reply : Reply) × Due log call reply × ((other : Reply) → Due log call other → other ≡ reply)
   -- so the calls alone decide every reply of a lawful log
-  pub replies : (log other : Log S) → Lawful log → Lawful other → asked log ≡ asked other → log ≡ other
+  pub calls-decide-replies : (log other : Log S) → Lawful log → Lawful other → asked log ≡ asked other → log ≡ other
   -- a total that was answered is the sum of the charges since the last settle, or since the station was made
-  pub totals : (later since before : Log S) (call : Call S) (n : ℕ) →
+  pub bill-is-the-charges : (later since before : Log S) (call : Call S) (n : ℕ) →
       Lawful (later ++ ((call, total n) ∷ (since ++ before))) → Unsettled since → Fresh before → n ≡ charges since

@@ -1,6 +1,5 @@
-use mathlib.Core.Path.{sym, _∙_, ap}
+use mathlib.Core.Path.{sym}
 use native.Mathlib.Omega.{arith}
-use Rattle.std.specs.declared.option.Option.the-variants.{Some}
 use Rattle.std.proofs.shelf.Maps.{nth-past}
 use Rattle.texts.specs.Lists.{packed-list}
 use Rattle.texts.proofs.Nth.{length-packed, packed-high, packed-low}
@@ -16,10 +15,10 @@ index-self-place c =
 
 pub returns-then-place-eq0 : need.returns-then-place-eq0
 returns-then-place-eq0 c =
-    ap Some (c .digit .ensures)
-    ∙ sym (packed-high (c .args .self .now .bytes .now) (c .args .place) (omega (arith, c .len .ensures)) (omega arith))
+    let there = packed-high (c .args .self .now .bytes .now) (c .args .place) (omega (arith, c .len .ensures)) (omega arith) in
+    cc
 
 pub returns-else-place-eq0 : need.returns-else-place-eq0
 returns-else-place-eq0 c =
-    ap Some (c .digit-else-place-eq0 .ensures)
-    ∙ sym (packed-low (c .args .self .now .bytes .now) (c .args .place) (omega (arith, c .len .ensures)) (λ even. omega arith))
+    let there = packed-low (c .args .self .now .bytes .now) (c .args .place) (omega (arith, c .len .ensures)) (λ even. omega arith) in
+    cc
