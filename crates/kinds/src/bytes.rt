@@ -4,7 +4,7 @@ use crate::class::Class;
 use crate::kind::Kind;
 
 /// Bytes; a class is a range of them, its two ends included.
-#[derive(Clone, Copy, PartialEq, Eq, Debug)]
+#[derive(Clone, Copy)]
 pub struct ByteKind;
 
 // The greatest byte that a range may end with.

@@ -30,7 +30,7 @@ impl Header {
 }
 
 /// Command headers; a class is a mask (first) and a value (second) that has no bit outside the mask.
-#[derive(Clone, Copy, PartialEq, Eq, Debug)]
+#[derive(Clone, Copy)]
 pub struct CommandKind;
 
 pub impl Kind for CommandKind as CommandKindKind {

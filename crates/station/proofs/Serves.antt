@@ -1,58 +1,61 @@
 -- One more request served is one more entry of the log.
-use Prim.Native.Nat.{ℕ, zero, suc, _+_, _<_, _≤_}
+use Prim.Native.Nat.{ℕ, _+_, _<_}
 use mathlib.Core.Path.{_≡_, refl, sym, _∙_, ap, subst}
-use mathlib.Core.List.{List, [], _∷_}
+use mathlib.Core.List.{List, [], _∷_, _++_, map, map-append, reverse, reverse-append}
 use native.Mathlib.Omega.{arith}
-use native.Mathlib.Numerals.{add-one}
 use lib.ListN.{length, take, drop, getD, set}
+use lib.Seq.{drop-set-lt}
+use Rattle.std.proofs.shelf.Lists.{take-more, take-more-set, drop-more}
 use Rattle.station.specs.declared.state.Station.{Station}
 use Rattle.station.specs.declared.request.Request.{Request}
 use Rattle.station.specs.declared.request.Answer.{Answer}
 use Rattle.station.specs.Law.{Call, Reply, Log, Lawful, none, more}
+use Rattle.station.specs.Whole.{asked, replied}
 use Rattle.station.specs.Stand.{Stands, Keeps}
-use Rattle.station.specs.Served.{call-of, reply-of, served-after, served}
+use Rattle.station.specs.Served.{call-of, reply-of, Served}
 
-grown : {S : Type 0} (xs : List Request) (ys : List Answer) (i : ℕ) (d : Request) (y : Answer) (log : Log S) →
-    i < length xs → i < length ys →
-    served-after log (take (suc i) xs) (take (suc i) (set ys i y)) ≡ (call-of (getD xs i d), reply-of y) ∷ served-after log (take i xs) (take i ys)
-grown [] ys i d y log a b = absurd (omega arith)
-grown (w ∷ xs) [] i d y log a b = absurd (omega arith)
-grown (w ∷ xs) (z ∷ ys) zero d y log a b = refl
-grown (w ∷ xs) (z ∷ ys) (suc i) d y log a b = grown xs ys i d y ((call-of w, reply-of z) ∷ log) (omega arith) (omega arith)
+-- the newest comes first when a list that grows at its end is turned round
+newest-first : {X Y : Type 0} (f : X → Y) (before after : List X) (x : X) (ys : List Y) →
+    after ≡ before ++ (x ∷ []) → ys ≡ reverse (map f before) → f x ∷ ys ≡ reverse (map f after)
+newest-first f before after x ys grown so-far =
+    ap (λ v. f x ∷ v) so-far
+    ∙ sym (ap (λ v. reverse (map f v)) grown ∙ ap reverse (map-append f before (x ∷ [])) ∙ reverse-append (map f before) (f x ∷ []))
 
-untouched : {X : Type 0} (xs ys : List X) (i : ℕ) (x : X) → drop i xs ≡ drop i ys → i < length xs → i < length ys → drop (suc i) (set xs i x) ≡ drop (suc i) ys
-untouched [] ys i x e a b = absurd (omega arith)
-untouched (w ∷ xs) [] i x e a b = absurd (omega arith)
-untouched (w ∷ xs) (y ∷ ys) zero x e a b = cc
-untouched (w ∷ xs) (y ∷ ys) (suc i) x e a b = untouched xs ys i x e (omega arith) (omega arith)
+-- After some requests: a lawful log of them, at which the station stands.
+pub record Serving {K : Type 0} (S : Type 0) (kind : K) (station : Station K) (requests : List Request) (answers : List Answer) : Type 0 where
+  pub served : Served {S = S} (map call-of requests) (map reply-of answers)
+  pub stands : Stands kind station (served .log)
 
--- After i requests: the log is lawful, the station stands at it, and the later answers are untouched.
-pub record Serving {K S : Type 0} (kind : K) (station : Station K) (log : Log S) (rest first : List Answer) : Type 0 where
-  pub lawful : Lawful log
-  pub stands : Stands kind station log
-  pub same : rest ≡ first
-
-pub serving-none : {K S : Type 0} {kind : K} {station : Station K} (answers : List Answer) → Stands {S = S} kind station [] →
-    Serving {S = S} (station .kind) station [] answers answers
-serving-none answers stands = record {
-  lawful = none;
+pub serving-none : {K S : Type 0} {kind : K} {station : Station K} → Stands {S = S} kind station [] → Serving S (station .kind) station [] []
+serving-none stands = record {
+  served = record { log = []; lawful = none; calls-are = refl; replies-are = refl };
   stands = record { kind-is = refl; sum-is = stands .sum-is; reads-is = stands .reads-is };
-  same = refl;
 }
 
-pub serving-more : {K S : Type 0} {kind : K} {station after : Station K} (xs : List Request) (ys first : List Answer) (i : ℕ) (d : Request) (y : Answer) →
-    i < length xs → i < length ys → i < length first → Keeps {S = S} station (call-of (getD xs i d)) (reply-of y) after →
-    Serving {S = S} kind station (served (take i xs) (take i ys)) (drop i ys) (drop i first) →
-    Serving {S = S} kind after (served (take (i + 1) xs) (take (i + 1) (set ys i y))) (drop (i + 1) (set ys i y)) (drop (i + 1) first)
-serving-more {S = S} {kind = kind} {station = station} {after = after} xs ys first i d y a b f keeps so-far =
-    let due = keeps kind (served (take i xs) (take i ys)) (so-far .stands) in
-    let log : _≡_ {A = Log S} ((call-of (getD xs i d), reply-of y) ∷ served (take i xs) (take i ys)) (served (take (i + 1) xs) (take (i + 1) (set ys i y))) =
-    rw add-one (sym (grown xs ys i d y [] a b)) in
+pub serving-more : {K S : Type 0} {kind : K} {station after : Station K} (xs : List Request) (ys : List Answer) (i : ℕ) (d : Request) (y : Answer) →
+    i < length xs → i < length ys → Keeps {S = S} station (call-of (getD xs i d)) (reply-of y) after →
+    Serving S kind station (take i xs) (take i ys) → Serving S kind after (take (i + 1) xs) (take (i + 1) (set ys i y))
+serving-more {kind = kind} xs ys i d y a b keeps so-far =
+    let s = so-far .served in
+    let due = keeps kind (s .log) (so-far .stands) in
     record {
-      lawful = subst Lawful log (more (so-far .lawful) (due .0));
-      stands = subst (Stands kind after) log (due .1);
-      same = rw add-one (untouched ys first i y (so-far .same) b f);
+      served = record {
+        log = (call-of (getD xs i d), reply-of y) ∷ s .log;
+        lawful = more (s .lawful) (due .0);
+        calls-are = newest-first call-of (take i xs) (take (i + 1) xs) (getD xs i d) (asked (s .log)) (take-more xs i d a) (s .calls-are);
+        replies-are = newest-first reply-of (take i ys) (take (i + 1) (set ys i y)) y (replied (s .log)) (take-more-set ys i y b) (s .replies-are);
+      };
+      stands = due .1;
     }
+
+-- the answers to come are untouched
+pub untouched-more : {X : Type 0} (xs ys : List X) (i : ℕ) (x : X) → drop i xs ≡ drop i ys → i < length xs → i < length ys →
+    drop (i + 1) (set xs i x) ≡ drop (i + 1) ys
+untouched-more xs ys i x same a b =
+    let written = drop-set-lt (i + 1) xs i x (omega arith) in
+    let front = drop-more xs i x a in
+    let back = drop-more ys i x b in
+    cc
 
 -- A promise about a call holds of the request that makes it.
 pub as-asked : {K S : Type 0} {before after : Station K} {request made : Request} {reply : Reply} → request ≡ made →

@@ -9,10 +9,14 @@ abbrev pub charges : {S : Type 0} → Log S → ℕ
 charges [] = 0
 charges (entry ∷ log) = charges log + charge (effect entry)
 
--- The calls of a log alone.
+-- The calls of a log alone, and the replies alone.
 abbrev pub asked : {S : Type 0} → Log S → List (Call S)
 asked [] = []
 asked ((call, reply) ∷ log) = call ∷ asked log
+
+abbrev pub replied : {S : Type 0} → Log S → List Reply
+replied [] = []
+replied ((call, reply) ∷ log) = reply ∷ replied log
 
 -- A part of a log with no settle in it.
 pub data Unsettled {S : Type 0} : Log S → Type 0 where
