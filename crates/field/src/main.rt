@@ -23,6 +23,7 @@ use texts::Text;
 use texts::Window;
 use texts::WindowText;
 
+// What is said when the arguments are not two such numbers.
 const EXPECTED: &str = "expected two numbers from 0 to 65535: symbols to skip, symbols to show";
 
 // One byte more than a packed text takes, so that a longer input is seen to be cut.
@@ -47,13 +48,10 @@ fn run(rt: &LibcRuntime) -> Result<(), AnyError> {
 fn asked_field(rt: &LibcRuntime) -> Result<Field, AnyError> {
     let mut words = env::args(rt)?;
     let _program = words.next();
-    match (words.next(), words.next(), words.next()) {
-        (Some(skip), Some(size), None) => Field::parse(
-            skip.as_str(),
-            size.as_str(),
-        ).ok_or(EXPECTED.into()),
-        _ => Err(EXPECTED.into()),
-    }
+    let (Some(skip), Some(size), None) = (words.next(), words.next(), words.next()) else {
+        return Err(EXPECTED.into());
+    };
+    Field::parse(skip.as_str(), size.as_str()).ok_or(EXPECTED.into())
 }
 
 fn show_field(rt: &LibcRuntime, bytes: &[u8], field: Field) -> Result<(), AnyError> {
