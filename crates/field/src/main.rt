@@ -17,6 +17,7 @@ use station::serve;
 use std::env;
 use std::error::AnyError;
 use std::io::Read;
+use texts::MOST_BYTES;
 use texts::Packed;
 use texts::PackedText;
 use texts::Text;
@@ -27,7 +28,7 @@ use texts::WindowText;
 const EXPECTED: &str = "expected two numbers from 0 to 65535: symbols to skip, symbols to show";
 
 // One byte more than a packed text takes, so that a longer input is seen to be cut.
-const MOST_INPUT: u64 = 32_768;
+const MOST_INPUT: u64 = MOST_BYTES as u64 + 1;
 
 fn main(rt: LibcRuntime) -> Result<(), AnyError> {
     let outcome = run(&rt);

@@ -23,11 +23,11 @@ nth-take-past (suc n) [] i h = refl
 nth-take-past (suc n) (x ∷ xs) zero h = absurd (omega arith)
 nth-take-past (suc n) (x ∷ xs) (suc i) h = nth-take-past n xs i (omega arith)
 
-pub nth-taken : {X : Type 0} (n : ℕ) (xs : List X) (i : ℕ) (d : X) → i < length (take n xs) → Some (getD xs i d) ≡ nth (take n xs) i
-nth-taken zero xs i d h = absurd (omega arith)
-nth-taken (suc n) [] i d h = absurd (omega arith)
-nth-taken (suc n) (x ∷ xs) zero d h = refl
-nth-taken (suc n) (x ∷ xs) (suc i) d h = nth-taken n xs i d (omega arith)
+pub nth-taken : {X : Type 0} (n : ℕ) (xs : List X) (i : ℕ) (d v : X) → i < length (take n xs) → v ≡ getD xs i d → Some v ≡ nth (take n xs) i
+nth-taken zero xs i d v h e = absurd (omega arith)
+nth-taken (suc n) [] i d v h e = absurd (omega arith)
+nth-taken (suc n) (x ∷ xs) zero d v h e = ap Some e
+nth-taken (suc n) (x ∷ xs) (suc i) d v h e = nth-taken n xs i d v (omega arith) e
 
 pub nth-drop : {X : Type 0} (n : ℕ) (xs : List X) (i : ℕ) → nth (drop n xs) i ≡ nth xs (n + i)
 nth-drop zero xs i = ap (nth xs) (sym (zero-add i))
@@ -78,13 +78,15 @@ module _ (bytes : List ℕ) (place : ℕ) (within : place < length (packed-list 
   byte-at : getD (take 32767 bytes) (place / 2) 0 ≡ getD bytes (place / 2) 0
   byte-at = getD-take 32767 bytes (place / 2) 0 (within-bytes .0)
 
-  pub packed-high : place % 2 ≡ 0 → nth (packed-list bytes) place ≡ Some (half-digit (getD bytes (place / 2) 0 / 16))
-  packed-high even =
-      nth-high (take 32767 bytes) (place / 2) place (omega arith) (within-bytes .1) ∙ ap (λ b. Some (half-digit (b / 16))) byte-at
+  pub packed-high : (digit : ℕ) → place % 2 ≡ 0 → digit ≡ half-digit (getD bytes (place / 2) 0 / 16) → Some digit ≡ nth (packed-list bytes) place
+  packed-high digit even is =
+      ap Some is
+      ∙ sym (nth-high (take 32767 bytes) (place / 2) place (omega arith) (within-bytes .1) ∙ ap (λ b. Some (half-digit (b / 16))) byte-at)
 
-  pub packed-low : (place % 2 ≡ 0 → ⊥) → nth (packed-list bytes) place ≡ Some (half-digit (getD bytes (place / 2) 0 % 16))
-  packed-low odd =
-      nth-low (take 32767 bytes) (place / 2) place (omega arith) (within-bytes .1) ∙ ap (λ b. Some (half-digit (b % 16))) byte-at
+  pub packed-low : (digit : ℕ) → (place % 2 ≡ 0 → ⊥) → digit ≡ half-digit (getD bytes (place / 2) 0 % 16) → Some digit ≡ nth (packed-list bytes) place
+  packed-low digit odd is =
+      ap Some is
+      ∙ sym (nth-low (take 32767 bytes) (place / 2) place (omega arith) (within-bytes .1) ∙ ap (λ b. Some (half-digit (b % 16))) byte-at)
 
 -- One more symbol copied.
 copied-suc : {X : Type 0} (xs ys : List X) (i : ℕ) (x : X) → nth xs i ≡ Some x → i < length ys →

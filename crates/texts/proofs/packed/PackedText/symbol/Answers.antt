@@ -1,3 +1,4 @@
+use borrow.Author.Needs.{needs}
 use mathlib.Core.Path.{sym}
 use native.Mathlib.Omega.{arith}
 use Rattle.std.proofs.shelf.Maps.{nth-past}
@@ -15,10 +16,8 @@ index-self-place c =
 
 pub returns-then-place-eq0 : need.returns-then-place-eq0
 returns-then-place-eq0 c =
-    let there = packed-high (c .args .self .now .bytes .now) (c .args .place) (omega (arith, c .len .ensures)) (omega arith) in
-    cc
+    packed-high (c .args .self .now .bytes .now) (c .args .place) (omega (arith, c .len .ensures)) (c .digit .result) (omega arith) (search needs)
 
 pub returns-else-place-eq0 : need.returns-else-place-eq0
 returns-else-place-eq0 c =
-    let there = packed-low (c .args .self .now .bytes .now) (c .args .place) (omega (arith, c .len .ensures)) (λ even. omega arith) in
-    cc
+    packed-low (c .args .self .now .bytes .now) (c .args .place) (omega (arith, c .len .ensures)) (c .digit-else-place-eq0 .result) (λ even. omega arith) (search needs)

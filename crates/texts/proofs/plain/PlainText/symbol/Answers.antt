@@ -1,3 +1,4 @@
+use borrow.Author.Needs.{needs}
 use mathlib.Core.Path.{sym}
 use native.Mathlib.Omega.{arith}
 use lib.ListN.{length-take}
@@ -9,8 +10,7 @@ use Rattle.texts.proofs.plain.PlainText.symbol.Needs as need
 pub returns-then-place-lt-MOST-SYMBOLS : need.returns-then-place-lt-MOST-SYMBOLS
 returns-then-place-lt-MOST-SYMBOLS g c =
     let xs = c .args .self .now .symbols .now in
-    let there = nth-taken 65535 xs (c .args .place) (c .index-self-place .result) (simp length-take (omega arith)) in
-    cc
+    nth-taken 65535 xs (c .args .place) (c .index-self-place .result) _ (simp length-take (omega arith)) (search needs)
 
 pub returns-else-place-self : need.returns-else-place-self
 returns-else-place-self g c =
