@@ -1,6 +1,8 @@
 //! What is found out about a loaded book after it was read: names of nothing, nullable rules, and
 //! `star`s that could go round for ever.
 
+#![tactic(auto)]
+
 mod loops;
 mod missing;
 mod nullable;

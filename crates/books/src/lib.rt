@@ -1,5 +1,7 @@
 //! Books: what an issuer sends, read into the tables of a grammar, or refused with the first fault.
 
+#![tactic(auto)]
+
 mod book;
 mod exprs;
 mod fault;

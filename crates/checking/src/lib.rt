@@ -3,6 +3,8 @@
 //! Of an accepted book, its counts and the book as a station shows it. Of a refused one, its fault: a
 //! line for other programs, what the fault means, and the place, with a caret under it.
 
+#![tactic(auto)]
+
 mod asking;
 mod escape;
 mod excerpt;

@@ -3,6 +3,8 @@
 //! Packed digits come on standard input; two arguments say how many symbols to skip and how many to
 //! show. Prints what was taken, the field, and the bill of a station that was served a list of calls.
 
+#![tactic(auto)]
+
 mod field;
 #[cfg(test)]
 mod tests;

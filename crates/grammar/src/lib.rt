@@ -1,5 +1,7 @@
 //! Grammars: what a book means, and the tables in which a loaded book is kept.
 
+#![tactic(auto)]
+
 mod book;
 mod classes;
 mod node;

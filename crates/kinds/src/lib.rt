@@ -4,6 +4,8 @@
 //! which pairs are lawful, and which symbols lie in each. Everything above is written once, for
 //! every kind.
 
+#![tactic(auto)]
+
 mod bytes;
 mod class;
 mod commands;

@@ -2,6 +2,8 @@
 //!
 //! The slice is the whole of its memory: a push beyond it is refused, and nothing is ever allocated.
 
+#![tactic(auto)]
+
 mod callers;
 mod stack;
 #[cfg(test)]

@@ -4,6 +4,8 @@
 //! bill and no reads counted; `bill` answers the sum and `settle` answers it and starts again. The
 //! law over every list of calls stands on `Station::new` and on `serve`.
 
+#![tactic(auto)]
+
 mod request;
 mod serving;
 mod state;

@@ -5,6 +5,8 @@
 //! starts again; reading comes later. The law over every list of calls stands on `Station::new` and
 //! on `serve`.
 
+#![tactic(auto)]
+
 mod answers;
 mod refusals;
 mod request;

@@ -4,6 +4,8 @@
 //! The texts here are views: none of them owns or copies its symbols, and each question is answered
 //! in a time that does not grow with the text, only with the layers that are piled up.
 
+#![tactic(auto)]
+
 mod copy;
 mod either;
 mod join;

@@ -1,6 +1,8 @@
 //! The lexer of a book: tokens, cut from the bytes one at a time as they are asked for, and the
 //! spots where something is wrong.
 
+#![tactic(auto)]
+
 mod lexer;
 mod spot;
 #[cfg(test)]

@@ -1,5 +1,7 @@
 //! Writes a loaded book back as bytes.
 
+#![tactic(auto)]
+
 mod book;
 mod bytes;
 mod lines;
