@@ -2,8 +2,8 @@ use Rattle.std.proofs.Common.{◌-◌, ◌++◌, sym, ◌∙◌, arith}
 use Rattle.texts.proofs.Nth.{nth_take, nth_take_past, nth_front, nth_back}
 use Rattle.texts.proofs.join.JoinText.symbol.Goals as goal
 
-pub returns-then-place-ge-MOST-SYMBOLS : goal.returns-then-place-ge-MOST-SYMBOLS
-returns-then-place-ge-MOST-SYMBOLS g c =
+pub returns-then-place-ge-MOST_SYMBOLS : goal.returns-then-place-ge-MOST_SYMBOLS
+returns-then-place-ge-MOST_SYMBOLS g c =
     let front = g.A.Text.list c.args.self.now.front in
     let back = g.B.Text.list c.args.self.now.back in
     sym (nth_take_past 65535 (front ++ back) c.args.place (omega arith))

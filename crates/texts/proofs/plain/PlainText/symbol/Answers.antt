@@ -4,8 +4,8 @@ use Rattle.texts.specs.Lists.{plain_list}
 use Rattle.texts.proofs.Nth.{nth_taken}
 use Rattle.texts.proofs.plain.PlainText.symbol.Goals as goal
 
-pub returns-then-place-lt-MOST-SYMBOLS : goal.returns-then-place-lt-MOST-SYMBOLS
-returns-then-place-lt-MOST-SYMBOLS g c =
+pub returns-then-place-lt-MOST_SYMBOLS : goal.returns-then-place-lt-MOST_SYMBOLS
+returns-then-place-lt-MOST_SYMBOLS g c =
     let xs = c.args.self.now.symbols.now in
     nth_taken 65535 xs c.args.place c.index-self-place.result _ (simp length-take (omega arith)) (search rules)
 
