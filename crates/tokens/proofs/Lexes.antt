@@ -2,16 +2,12 @@
 use Rattle.std.proofs.Common.{◌≡◌, ℕ, ◌+◌, ◌-◌, ◌<◌, ◌≤◌, List, ◌∷◌, length, get_or, take, drop, sym, refl, ap, ◌∙◌, arith, length-drop}
 use Rattle.std.proofs.lemmas.List.{at_drop_more, drop_more, drop-drop, take_rest}
 use Rattle.std.proofs.lemmas.Bool.{ne_eqb, le-leb, lt-leb}
-use Rattle.std.proofs.lemmas.Bool.Decides.{nat_tests}
 use Rattle.std.specs.List.{prefix_len}
-use Rattle.tokens.specs.Out.{Out, ok, no}
-use Rattle.tokens.specs.Spots.{spot}
+use Rattle.tokens.specs.Out.{Out, ok}
 use Rattle.tokens.specs.Lexing.{letter, digit, word_token, number_token, lexing}
-use Rattle.tokens.specs.declared.spot.Spot.{Spot}
 use Rattle.tokens.specs.declared.token.Token.{Token}
 use Rattle.tokens.specs.declared.token.Token.TheVariants.{Open, Close, Space, Feed}
 use Rattle.tokens.specs.declared.token.TokenFault.{TokenFault}
-use Rattle.tokens.specs.declared.token.TokenFault.TheVariants.{Stray}
 
 -- Bytes given by their first and the others.
 module _ (bs : List ℕ) (at x : ℕ) (xs : List ℕ) where
@@ -35,9 +31,6 @@ module _ (bs : List ℕ) (at x : ℕ) (xs : List ℕ) where
   lex_digits a b =
       rw (ne_eqb x 40 (omega arith), ne_eqb x 41 (omega arith), ne_eqb x 32 (omega arith), ne_eqb x 10 (omega arith), lt-leb 97 x (omega arith), le-leb 48 x a, le-leb x 57 b)
 
-  pub lex_stray : (x ≡ 40 → ⊥) → (x ≡ 41 → ⊥) → (x ≡ 32 → ⊥) → (x ≡ 10 → ⊥) → (97 ≤ x → 122 < x) → (48 ≤ x → 57 < x) → lexing bs at (x ∷ xs) ≡ no (Stray (spot bs at))
-  lex_stray o c s f l d = grind (arith, nat_tests)
-
 -- The bytes from a place within the book; the code's `next` is one byte on.
 module _ (bs : List ℕ) (at : ℕ) (h : at < length bs) where
   on_one : (t : Token) {next : ℕ} → next ≡ at + 1 → ◌≡◌ {A = Out TokenFault Token} (ok t (at + 1) (drop (at + 1) bs)) (ok t next (drop next bs))
@@ -57,14 +50,6 @@ module _ (bs : List ℕ) (at : ℕ) (h : at < length bs) where
 
   pub letters_at : 97 ≤ get_or bs at 0 → get_or bs at 0 ≤ 122 → lexing bs at (drop at bs) ≡ word_token at (prefix_len letter (drop at bs)) (drop at bs)
   letters_at a b = rw (drop_more bs at 0 h) (lex_letters bs at (get_or bs at 0) (drop (at + 1) bs) a b)
-
-  pub digits_at : 48 ≤ get_or bs at 0 → get_or bs at 0 ≤ 57 → lexing bs at (drop at bs) ≡ number_token bs at (prefix_len digit (drop at bs)) (drop at bs)
-  digits_at a b = rw (drop_more bs at 0 h) (lex_digits bs at (get_or bs at 0) (drop (at + 1) bs) a b)
-
-  pub stray_at : {s : Spot} {p : ℕ} → s ≡ spot bs p → p ≡ at →
-      (get_or bs at 0 ≡ 40 → ⊥) → (get_or bs at 0 ≡ 41 → ⊥) → (get_or bs at 0 ≡ 32 → ⊥) → (get_or bs at 0 ≡ 10 → ⊥) →
-      (97 ≤ get_or bs at 0 → 122 < get_or bs at 0) → (48 ≤ get_or bs at 0 → 57 < get_or bs at 0) → lexing bs at (drop at bs) ≡ no (Stray s)
-  stray_at e q o c s f l d = at_drop_more (lexing bs at) bs at 0 h ∙ lex_stray bs at _ _ o c s f l d ∙ ap (λ p. no (Stray (spot bs p))) (sym q) ∙ ap (λ s. no (Stray s)) (sym e)
 
   pub first_at : get_or (drop at bs) 0 0 ≡ get_or bs at 0
   first_at = rw (drop_more bs at 0 h)
