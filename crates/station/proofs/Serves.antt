@@ -5,7 +5,7 @@ use Rattle.std.proofs.lemmas.List.{take_more, take_more_set, drop_more}
 use Rattle.station.specs.declared.state.Station.{Station}
 use Rattle.station.specs.declared.request.Request.{Request}
 use Rattle.station.specs.declared.request.Answer.{Answer}
-use Rattle.station.specs.Law.{Call, Reply, Log, Lawful, none, more}
+use Rattle.station.specs.Law.{Reply, none, more}
 use Rattle.station.specs.Whole.{asked, replied}
 use Rattle.station.specs.Stand.{Stands, Keeps}
 use Rattle.station.specs.Served.{call_of, reply_of, Served}

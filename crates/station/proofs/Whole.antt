@@ -1,5 +1,5 @@
 -- The law over lawful logs.
-use Rattle.std.proofs.Common.{◌≡◌, ℕ, ◌+◌, List, [], ◌∷◌, ◌++◌, sym, refl, ap, ◌∙◌, subst, arith}
+use Rattle.std.proofs.Common.{◌≡◌, ℕ, ◌+◌, [], ◌∷◌, ◌++◌, sym, refl, ap, ◌∙◌, subst, arith}
 use Rattle.station.specs.Law.{Call, bill, settle, Reply, total, Log, Effect, nothing, settles, effect, charge, owed_after, owed, Due, billed, settled, Lawful, none, more}
 use Rattle.station.specs.Whole.{charges, asked, Unsettled, Fresh, at_first, just_settled, Law}
 use Rattle.station.specs.Whole as whole

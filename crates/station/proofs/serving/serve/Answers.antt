@@ -18,7 +18,7 @@ returns g c =
     let all : c.loop-i.i ≡ c.min-count.result = omega arith in
     record {
       count = c.min-count.ensures;
-      served = subst (λ n. Served {S = g.K.Symbol.Denot} (map call_of (take n c.args.requests.now)) (map reply_of (take n c.loop-i.answers))) all c.loop-i.invariant.0.served;
+      served = subst (λ n. Served {S = g.row.K-Symbol.Denot} (map call_of (take n c.args.requests.now)) (map reply_of (take n c.loop-i.answers))) all c.loop-i.invariant.0.served;
       untouched = subst (λ n. drop n c.loop-i.answers ≡ drop n c.args.answers.now) all c.loop-i.invariant.1;
       law = c.new-station.ensures.law;
     }

@@ -4,5 +4,5 @@ use Rattle.station.proofs.serving.serve.Given as goal
 
 abbrev pub invariant-loop-i : goal.invariant-loop-i
 invariant-loop-i g l =
-    Serving g.K.Symbol.Denot l.initial.station.kind l.station (take l.i l.requests) (take l.i l.answers)
+    Serving g.row.K-Symbol.Denot l.initial.station.kind l.station (take l.i l.requests) (take l.i l.answers)
     × (drop l.i l.answers ≡ drop l.i l.initial.answers)

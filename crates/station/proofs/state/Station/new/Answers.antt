@@ -8,5 +8,5 @@ returns g c = record {
   made = search rules;
   stands = search rules;
   linked = λ s log link. linked_lawful c.args.kind (search rules) link;
-  law = the_law g.K.Symbol.Denot;
+  law = the_law g.row.K-Symbol.Denot;
 }
