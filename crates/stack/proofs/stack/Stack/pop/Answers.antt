@@ -6,7 +6,7 @@ pub returns : goal.returns
 returns g c =
     let n = c.args.self.now.depth in
     let xs = c.args.self.now.records.now in
-    let left : c.saturating-sub-self.result ≡ length (take n xs) - 1 = omega (arith, c.saturating-sub-self.ensures, c.len.ensures) in
+    let left : c.saturating_sub-self.result ≡ length (take n xs) - 1 = omega (arith, c.saturating_sub-self.ensures, c.len.ensures) in
     let rest = one_fewer n xs _ left in
     record {
       top = c.top-top.ensures;

@@ -10,4 +10,4 @@ returns-then-count-eq0 g c =
 pub returns-else-count-eq0 : goal.returns-else-count-eq0
 returns-else-count-eq0 g c =
     let stack = c.args.self.now in
-    c.record-at.ensures ∙ top_at stack.depth stack.records.now _ (omega (arith, c.len-count.ensures))
+    c.record_at.ensures ∙ top_at stack.depth stack.records.now _ (omega (arith, c.len-count.ensures))
