@@ -1,5 +1,5 @@
 -- The top of the first n of a list.
-use Rattle.std.proofs.Common.{◌≡◌, ℕ, zero, suc, ◌-◌, ◌<◌, ◌≤◌, List, [], ◌∷◌, length, take, None, Option, sym, refl, ◌∙◌, subst, arith, length-take}
+use Rattle.std.proofs.Common.{◌≡◌, ℕ, zero, suc, ◌-◌, ◌<◌, ◌≤◌, List, [], ◌∷◌, length, take, Option, sym, refl, ◌∙◌, subst, arith, length-take}
 use Rattle.std.specs.List.{slice_get}
 use Rattle.std.proofs.lemmas.List.{take-take}
 use Rattle.stack.specs.Held.{last, front, Taken}
@@ -11,17 +11,9 @@ nth_take (suc n) [] place h = refl
 nth_take (suc n) (x ∷ xs) zero h = refl
 nth_take (suc n) (x ∷ xs) (suc place) h = nth_take n xs place (omega arith)
 
-last_empty : {R : Type 0} (xs : List R) → length xs ≡ 0 → last xs ≡ None
-last_empty [] none = refl
-last_empty (x ∷ xs) none = absurd (omega arith)
-
 front_empty : {R : Type 0} (xs ys : List R) → length xs ≡ 0 → front xs ≡ take 0 ys
 front_empty [] ys none = refl
 front_empty (x ∷ xs) ys none = absurd (omega arith)
-
--- None is held, so there is no top.
-pub no_top : {R : Type 0} (n : ℕ) (xs : List R) → length (take n xs) ≡ 0 → None ≡ last (take n xs)
-no_top n xs none = sym (last_empty (take n xs) none)
 
 -- The top stands in the list, one place before the count.
 pub top_at : {R : Type 0} (n : ℕ) (xs : List R) (place : ℕ) → length (take n xs) ≡ suc place → slice_get xs place ≡ last (take n xs)
@@ -43,5 +35,5 @@ one_fewer n xs (suc m) count =
 
 -- What comes off is this top, and this front is left.
 pub taken : {R : Type 0} (before after : List R) (top : Option R) → top ≡ last before → after ≡ front before → Taken before top after
-taken before after top top-is after_is =
-    subst (λ t. Taken before t after) (sym top-is) (subst (Taken before (last before)) (sym after_is) (taken_last before))
+taken before after top top_is after_is =
+    subst (λ t. Taken before t after) (sym top_is) (subst (Taken before (last before)) (sym after_is) (taken_last before))

@@ -39,6 +39,7 @@ impl<R: Copy> Stack<'_, R> {
     }
 
     /// The record that was pushed last, if one is held.
+    #[tactic(auto, using(crate::proofs::Tops::top_at))]
     pub fn top(&self) -> Option<R>
         ensures { result ≡ last (held self.now) }
     {
@@ -69,6 +70,7 @@ impl<R: Copy> Stack<'_, R> {
     }
 
     /// Takes the top off, if a record is held. The slice stays as it is.
+    #[tactic(auto, using(crate::proofs::Tops::one_fewer, crate::proofs::Tops::taken))]
     pub fn pop(&mut self) -> Option<R>
         ensures top { result ≡ last (held self.old) }
         ensures held { held self.new ≡ front (held self.old) }
