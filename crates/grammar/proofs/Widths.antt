@@ -1,6 +1,5 @@
 -- How many bytes and how many nodes an expression takes.
-use Rattle.std.proofs.Common.{◌≡◌, ℕ, zero, suc, ◌+◌, ◌<◌, ◌≤◌, List, [], ◌∷◌, ◌++◌, length, codes, decimal, sym, refl, ap, ◌∙◌, arith, length-append}
-use Rattle.grammar.specs.declared.node.Node.{Node}
+use Rattle.std.proofs.Common.{◌≡◌, ℕ, ◌+◌, List, [], ◌∷◌, length, decimal, refl, arith, length-append}
 use Rattle.grammar.specs.Expr.{Expr, empty, any, term, call, seq, alt, star, not, size}
 use Rattle.grammar.specs.Spelling.{spell, width}
 use Rattle.grammar.specs.Layout.{below, flat}

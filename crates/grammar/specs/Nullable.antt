@@ -1,6 +1,6 @@
 -- Which expressions may match without reading a symbol.
 use Rattle.std.specs.Prelude.{ℕ, List}
-use Rattle.grammar.specs.Expr.{Expr, empty, any, term, call, seq, alt, star, not, body}
+use Rattle.grammar.specs.Expr.{Expr, empty, call, seq, alt, star, not, body}
 
 -- The smallest relation with these rules.
 pub data Nullable (rules : List Expr) : Expr → Type 0 where

@@ -15,8 +15,8 @@ nodes = refl
 bytes : 20 ≡ length (spelling book)
 bytes = refl
 
-pub invariant-of-result : goal.invariant-of-result
-invariant-of-result c =
+pub invariant_of-result : goal.invariant_of-result
+invariant_of-result c =
     let n0 = c.new-table.ensures in
     let n1 = after reserved c.reserve.ensures.laid n0 in
     let n2 = after reserved c.reserve-2.ensures.laid n1 in
@@ -24,4 +24,4 @@ invariant-of-result c =
     let n4 = after (filled 0 operator.Star 6) c.fill-2.ensures n3 in
     let r0 = c.new-roots.ensures in
     let r1 = after (pushed 0) c.push.ensures r0 in
-    (∣ (book, record { classes_are = c.new.ensures; nodes_are = n4 ∙ nodes; roots_are = r1; length_is = bytes; shallow = (omega arith, tt) }) ∣₁, tt)
+    record { known = ∣ (book, record { classes_are = c.new.ensures; nodes_are = n4 ∙ nodes; roots_are = r1; length_is = bytes; shallow = (omega arith, tt) }) ∣₁ }

@@ -16,8 +16,8 @@ nodes = rw (decimal_digit 1 (omega arith), decimal_digit 2 (omega arith)) refl
 bytes : 54 ≡ length (spelling book)
 bytes = rw (decimal_digit 1 (omega arith), decimal_digit 2 (omega arith)) refl
 
-pub invariant-of-result : goal.invariant-of-result
-invariant-of-result c =
+pub invariant_of-result : goal.invariant_of-result
+invariant_of-result c =
     let n0 = c.new-table.ensures in
     let n1 = after reserved c.reserve.ensures.laid n0 in
     let n2 = after reserved c.reserve-2.ensures.laid n1 in
@@ -31,4 +31,4 @@ invariant-of-result c =
     let r1 = after (pushed 0) c.push.ensures r0 in
     let r2 = after (pushed 2) c.push-2.ensures r1 in
     let r3 = after (pushed 3) c.push-3.ensures r2 in
-    (∣ (book, record { classes_are = c.new.ensures; nodes_are = n8 ∙ nodes; roots_are = r3; length_is = bytes; shallow = (omega arith, (omega arith, (omega arith, tt))) }) ∣₁, tt)
+    record { known = ∣ (book, record { classes_are = c.new.ensures; nodes_are = n8 ∙ nodes; roots_are = r3; length_is = bytes; shallow = (omega arith, (omega arith, (omega arith, tt))) }) ∣₁ }

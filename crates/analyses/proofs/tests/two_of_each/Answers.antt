@@ -16,8 +16,8 @@ nodes = rw (decimal_digit 0 (omega arith), decimal_digit 1 (omega arith), decima
 bytes : 114 ≡ length (spelling book)
 bytes = rw (decimal_digit 0 (omega arith), decimal_digit 1 (omega arith), decimal_digit 4 (omega arith), decimal_digit 7 (omega arith)) refl
 
-pub invariant-of-result : goal.invariant-of-result
-invariant-of-result c =
+pub invariant_of-result : goal.invariant_of-result
+invariant_of-result c =
     let n0 = c.new-table.ensures in
     let n1 = after reserved c.reserve.ensures.laid n0 in
     let n2 = after reserved c.reserve-2.ensures.laid n1 in
@@ -46,4 +46,4 @@ invariant-of-result c =
     let r2 = after (pushed 4) c.push-2.ensures r1 in
     let r3 = after (pushed 8) c.push-3.ensures r2 in
     let r4 = after (pushed 10) c.push-4.ensures r3 in
-    (∣ (book, record { classes_are = c.new.ensures; nodes_are = n22 ∙ nodes; roots_are = r4; length_is = bytes; shallow = (omega arith, (omega arith, (omega arith, (omega arith, tt)))) }) ∣₁, tt)
+    record { known = ∣ (book, record { classes_are = c.new.ensures; nodes_are = n22 ∙ nodes; roots_are = r4; length_is = bytes; shallow = (omega arith, (omega arith, (omega arith, (omega arith, tt)))) }) ∣₁ }
