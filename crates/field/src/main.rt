@@ -9,11 +9,13 @@ mod field;
 #[cfg(test)]
 mod tests;
 
+use anyhow::{Context, bail};
 use field::{Field, symbols_of};
 use kinds::ByteKind;
 use station::{Answer, Request, serve};
 use std::env;
 use std::io::Read;
+use std::process::ExitCode;
 use texts::{MOST_BYTES, Packed, Text, Window};
 
 // What is said when the arguments are not two such numbers.
@@ -22,12 +24,12 @@ const EXPECTED: &str = "expected two numbers from 0 to 65535: symbols to skip, s
 // One byte more than a packed text takes, so that a longer input is seen to be cut.
 const MOST_INPUT: u64 = MOST_BYTES as u64 + 1;
 
-fn main(rt: HostRuntime) -> anyhow::Result<()> {
-    let outcome = run(&rt);
-    if let Err(error) = &outcome {
+fn main(rt: HostRuntime) -> anyhow::Result<ExitCode> {
+    if let Err(error) = run(&rt) {
         eprintln!(rt; "field: {error}")?;
+        return Ok(ExitCode::FAILURE);
     }
-    outcome
+    Ok(ExitCode::SUCCESS)
 }
 
 fn run(rt: &HostRuntime) -> anyhow::Result<()> {
@@ -42,9 +44,9 @@ fn asked_field(rt: &HostRuntime) -> anyhow::Result<Field> {
     let mut words = env::args(rt)?;
     let _program = words.next();
     let (Some(skip), Some(size), None) = (words.next(), words.next(), words.next()) else {
-        return Err(EXPECTED.into());
+        bail!(EXPECTED);
     };
-    Field::parse(skip.as_str(), size.as_str()).ok_or(EXPECTED.into())
+    Field::parse(skip.as_str(), size.as_str()).context(EXPECTED)
 }
 
 fn show_field(rt: &HostRuntime, bytes: &[u8], field: Field) -> anyhow::Result<()> {

@@ -1,4 +1,4 @@
-use Rattle.std.proofs.Common.{◌≡◌, ℕ, ◌≤◌, min, List, ◌++◌, length, take, drop, sym, ap, ◌∙◌, append-nil, arith, take_all}
+use Rattle.std.proofs.Common.{◌≡◌, ℕ, min, List, ◌++◌, length, take, drop, ap, ◌∙◌, append-nil, arith, take_all}
 use lib.Seq.{take-append-le}
 use Rattle.std.proofs.lemmas.List.{drop_all}
 use Rattle.field.proofs.field.symbols_of.Goals as goal
@@ -16,8 +16,8 @@ filled_whole xs out before rest n r filled count same size =
 
 pub returns : goal.returns
 returns g c =
-    let made = c.in-ok-symbols.ensures.len in
-    filled_whole (g.T.Text.list c.args.text.now) _ c.as-mut-slice.result.now _ _ c.copy-symbols.result
-    c.copy-symbols.ensures.filled c.copy-symbols.ensures.count
-    (omega (arith, c.as-mut-slice.ensures.len, made, c.len.ensures))
+    let made = c.in_ok-symbols.ensures.len in
+    filled_whole (g.T.Text.list c.args.text.now) _ c.as_mut_slice.result.now _ _ c.copy_symbols.result
+    c.copy_symbols.ensures.filled c.copy_symbols.ensures.count
+    (omega (arith, c.as_mut_slice.ensures.len, made, c.len.ensures))
     (omega (arith, made, c.len.ensures))
