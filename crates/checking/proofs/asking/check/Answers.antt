@@ -8,21 +8,21 @@ use Rattle.checking.specs.Checks.{Checked, over}
 use Rattle.checking.proofs.Asked.{Outcome, outcome_in}
 use Rattle.checking.proofs.Saying.{says_refused, says_accepted, never_unshown, never_else}
 use Rattle.checking.proofs.asking.check.Goals as goal
-use Rattle.checking.proofs.asking.check.Goals.{in-Refused+in-ok-put-refusal, in-Loaded+in-Shown+in-ok-put-acceptance, in-Loaded+in-default-showed, in-default}
+use Rattle.checking.proofs.asking.check.Goals.{in-Refused+in_ok-put_refusal, in-Loaded+in-Shown+in_ok-put_acceptance, in-Loaded+in_default-showed, in_default}
 
-pub returns-then-input-gt-MOST-INPUT : goal.returns-then-input-gt-MOST-INPUT
-returns-then-input-gt-MOST-INPUT c =
-    let said : vec_items c.extend-from-slice.new.self ≡ codes "input too long\n" =
-    c.in-ok-extend-from-slice.ensures.items ∙ ap (λ z. z ++ codes "input too long\n") c.new-text.ensures.items in
+pub returns-then-input-gt-MOST_INPUT : goal.returns-then-input-gt-MOST_INPUT
+returns-then-input-gt-MOST_INPUT c =
+    let said : vec_items c.extend_from_slice.new.self ≡ codes "input too long\n" =
+    c.in_ok-extend_from_slice.ensures.items ∙ ap (λ z. z ++ codes "input too long\n") c.new-text.ensures.items in
     subst (λ z. Checked c.args.input.now z) (sym said) (over (omega arith))
 
-pub returns-in-err-put-refusal : goal.returns-in-err-put-refusal
-returns-in-err-put-refusal c =
-    let p = err_from_is_err_and c.from-residual-in-err-put-refusal.result c.from-residual-in-err-put-refusal.ensures.1 in rw p.1 tt
+pub returns-in_err-put_refusal : goal.returns-in_err-put_refusal
+returns-in_err-put_refusal c =
+    let p = err_from_is_err_and c.from_residual-in_err-put_refusal.result c.from_residual-in_err-put_refusal.ensures.1 in rw p.1 tt
 
-pub returns-in-err-put-acceptance : goal.returns-in-err-put-acceptance
-returns-in-err-put-acceptance c =
-    let p = err_from_is_err_and c.from-residual-in-err-put-acceptance.result c.from-residual-in-err-put-acceptance.ensures.1 in rw p.1 tt
+pub returns-in_err-put_acceptance : goal.returns-in_err-put_acceptance
+returns-in_err-put_acceptance c =
+    let p = err_from_is_err_and c.from_residual-in_err-put_acceptance.result c.from_residual-in_err-put_acceptance.ensures.1 in rw p.1 tt
 
 -- What an array of answers is read at past its end.
 abbrev blank : Answer
@@ -31,19 +31,19 @@ blank = Loaded (record { classes = 0; rules = 0; expressions = 0 })
 -- The station's answers, and the buffer as it left it.
 answered : (c : goal.After-drop-shown-2) → Outcome byte_lawful c.args.input.now c.serve.new.out (get_or c.serve.new.answers 0 blank) (get_or c.serve.new.answers 1 blank)
 answered c =
-    outcome_in c.args.input.now c.as-mut-slice.result.now 32768 (Load c.args.input) c.serve.new.answers blank c.serve.result c.serve.auto.answers c.serve.ensures.count
-    (omega (arith, length-take 32768 c.as-mut-slice.result.now, c.as-mut-slice.ensures.len, c.in-ok-shown.ensures.len)) refl (λ reply. refl) c.serve.ensures.served
+    outcome_in c.args.input.now c.as_mut_slice.result.now 32768 (Load c.args.input) c.serve.new.answers blank c.serve.result c.serve.auto.answers c.serve.ensures.count
+    (omega (arith, length-take 32768 c.as_mut_slice.result.now, c.as_mut_slice.ensures.len, c.in_ok-shown.ensures.len)) refl (λ reply. refl) c.serve.ensures.served
 
 pub returns : goal.returns
 returns c =
     elim c.match-loaded.branch [
-      | in-Refused+in-ok-put-refusal w ↦
+      | in-Refused+in_ok-put_refusal w ↦
           says_refused c.args.input.now c.serve.new.out _ _ w.in-Refused.fault (vec_items c.new-text.result) (vec_items c.match-loaded.text) (omega arith) (answered c) w.in-Refused.is c.new-text.ensures.items
-          (let p = w.in-ok-put-refusal.ensures in (p.0, p.1, ap vec_items w.text-is ∙ p.2))
-      | in-Loaded+in-Shown+in-ok-put-acceptance w ↦
-          says_accepted c.args.input.now c.serve.new.out (drop (length c.serve.new.out) (vec_items c.in-ok-shown.shown)) w.as-slice.result.now (vec_items c.match-loaded.text) (vec_items c.new-text.result) c.in-ok-shown.shown.len w.in-Shown.length _ _ w.in-Loaded.counts
-          (omega arith) (omega (arith, c.serve.auto.out, c.as-mut-slice.ensures.len)) (answered c) w.in-Loaded.is w.in-Shown.is c.new-text.ensures.items
-          (w.as-slice.ensures.value ∙ w.truncate.ensures.items) (ap vec_items w.text-is ∙ w.in-ok-put-acceptance.ensures)
-      | in-Loaded+in-default-showed w ↦ elim (never_unshown c.args.input.now c.serve.new.out _ _ w.in-Loaded.counts (answered c) w.in-Loaded.is w.in-default-showed.not-Shown) [ ]
-      | in-default w ↦ elim (never_else c.args.input.now c.serve.new.out _ _ (answered c) w.in-default.not-Refused w.in-default.not-Loaded) [ ]
+          (let p = w.in_ok-put_refusal.ensures in (p.0, p.1, ap vec_items w.text-is ∙ p.2))
+      | in-Loaded+in-Shown+in_ok-put_acceptance w ↦
+          says_accepted c.args.input.now c.serve.new.out (drop (length c.serve.new.out) (vec_items c.in_ok-shown.shown)) w.as_slice.result.now (vec_items c.match-loaded.text) (vec_items c.new-text.result) c.in_ok-shown.shown.len w.in-Shown.length _ _ w.in-Loaded.counts
+          (omega arith) (omega (arith, c.serve.auto.out, c.as_mut_slice.ensures.len)) (answered c) w.in-Loaded.is w.in-Shown.is c.new-text.ensures.items
+          (w.as_slice.ensures.value ∙ w.truncate.ensures.items) (ap vec_items w.text-is ∙ w.in_ok-put_acceptance.ensures)
+      | in-Loaded+in_default-showed w ↦ elim (never_unshown c.args.input.now c.serve.new.out _ _ w.in-Loaded.counts (answered c) w.in-Loaded.is w.in_default-showed.not-Shown) [ ]
+      | in_default w ↦ elim (never_else c.args.input.now c.serve.new.out _ _ (answered c) w.in_default.not-Refused w.in_default.not-Loaded) [ ]
     ]

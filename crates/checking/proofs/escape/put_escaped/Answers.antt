@@ -9,7 +9,7 @@ loop-byte-init c = let e = append-nil (vec_items c.args.text.now) in cc
 pub loop-byte-preserved : goal.loop-byte-preserved
 loop-byte-preserved c =
     let more = escapes_more c.args.bytes.now c.loop-byte.byte-index (omega arith) in
-    let pushed = c.in-ok-extend-from-slice.ensures.items in
+    let pushed = c.in_ok-extend_from_slice.ensures.items in
     let joined = append_assoc (vec_items c.args.text.now) (escapes (take c.loop-byte.byte-index c.args.bytes.now)) (escape_of (get_or c.args.bytes.now c.loop-byte.byte-index 0)) in
     cc
 

@@ -7,4 +7,4 @@ use Rattle.checking.proofs.pointing.put_after.Goals as goal
 pub returns : goal.returns
 returns c =
     two_pieces (vec_items c.args.text.now) (escapes (part c.args.bytes.now c.args.place c.args.shown.to)) (dots c.args.shown.cut_after)
-    c.in-ok-put-escaped.ensures c.in-ok-put-dots.ensures
+    c.in_ok-put_escaped.ensures c.in_ok-put_dots.ensures

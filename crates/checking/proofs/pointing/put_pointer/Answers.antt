@@ -25,6 +25,6 @@ pointed bs place p line e column t w is-p around is-e is-column a b c d f =
 
 pub returns : goal.returns
 returns c =
-    pointed c.args.bytes.now c.args.place c.min-place.result c.around.result c.around-shown.result c.in-ok-column.column (vec_items c.args.text.now) (vec_items c.extend-from-slice.new.self)
-    c.min-place.ensures c.around.ensures c.around-shown.ensures c.in-ok-column.ensures.0
-    c.in-ok-column.ensures.1 c.in-ok-put-after.ensures c.in-ok-extend-from-slice.ensures.items c.in-ok-put-spaces.ensures c.in-ok-extend-from-slice-2.ensures.items
+    pointed c.args.bytes.now c.args.place c.min-place.result c.around.result c.around-shown.result c.in_ok-column.column (vec_items c.args.text.now) (vec_items c.extend_from_slice.new.self)
+    c.min-place.ensures c.around.ensures c.around-shown.ensures c.in_ok-column.ensures.0
+    c.in_ok-column.ensures.1 c.in_ok-put_after.ensures c.in_ok-extend_from_slice.ensures.items c.in_ok-put_spaces.ensures c.in_ok-extend_from_slice-2.ensures.items

@@ -5,6 +5,6 @@ use Rattle.checking.proofs.report.put_acceptance.Goals as goal
 
 pub returns : goal.returns
 returns c =
-    let head = c.as-bytes.ensures.value ∙ c.in-ok-head.ensures in
+    let head = c.as_bytes.ensures.value ∙ c.in_ok-head.ensures in
     two_pieces (vec_items c.args.text.now) (acceptance_head_lem c.args.counts) c.args.book.now
-    (c.in-ok-extend-from-slice.ensures.items ∙ ap (λ v. vec_items c.args.text.now ++ v) head) c.in-ok-extend-from-slice-2.ensures.items
+    (c.in_ok-extend_from_slice.ensures.items ∙ ap (λ v. vec_items c.args.text.now ++ v) head) c.in_ok-extend_from_slice-2.ensures.items

@@ -18,6 +18,6 @@ said_of book fault place t head words is_place is_head a b c (pointed, points, d
 
 pub returns : goal.returns
 returns c =
-    said_of c.args.book.now c.args.fault.now c.spot.result.place (vec_items c.args.text.now) c.as-bytes.result.now c.as-bytes-2.result.now
-    (ap (λ s. s.place) c.spot.ensures) (c.as-bytes.ensures.value ∙ c.in-ok-head.ensures)
-    c.in-ok-extend-from-slice.ensures.items c.in-ok-extend-from-slice-2.ensures.items c.in-ok-extend-from-slice-3.ensures.items c.in-ok-put-pointer.ensures
+    said_of c.args.book.now c.args.fault.now c.spot.result.place (vec_items c.args.text.now) c.as_bytes.result.now c.as_bytes-2.result.now
+    (ap (λ s. s.place) c.spot.ensures) (c.as_bytes.ensures.value ∙ c.in_ok-head.ensures)
+    c.in_ok-extend_from_slice.ensures.items c.in_ok-extend_from_slice-2.ensures.items c.in_ok-extend_from_slice-3.ensures.items c.in_ok-put_pointer.ensures

@@ -7,7 +7,7 @@ use Rattle.station_with_books.proofs.serving.serve.Goals as goal
 pub loop-i-init : goal.loop-i-init
 loop-i-init g c =
     let new = c.new-station.ensures in
-    (serving_none g.K.Kind.lawful (subst (λ k. Stands {S = g.K.Symbol.Denot} g.K.Kind.lawful k c.new-station.result []) (sym new.made.0) new.stands), refl)
+    (serving_none g.K.Kind.lawful (subst (λ k. Stands {S = g.row.K-Symbol.Denot} g.K.Kind.lawful k c.new-station.result []) (sym new.made.0) new.stands), refl)
 
 pub loop-i-preserved : goal.loop-i-preserved
 loop-i-preserved g c = (
@@ -22,8 +22,8 @@ returns g c =
     record {
       count = c.min-count.ensures;
       served =
-          subst (λ n. Served g.K.Symbol.Denot (g.K.Kind.lawful c.args.kind) c.args.out.now (take n c.args.requests.now) (take n c.loop-i.answers) c.loop-i.out) all
-          (subst (λ k. Served g.K.Symbol.Denot (g.K.Kind.lawful k) c.args.out.now (take c.loop-i.i c.args.requests.now) (take c.loop-i.i c.loop-i.answers) c.loop-i.out) new.made.0 c.loop-i.invariant.0.so_far);
+          subst (λ n. Served g.row.K-Symbol.Denot (g.K.Kind.lawful c.args.kind) c.args.out.now (take n c.args.requests.now) (take n c.loop-i.answers) c.loop-i.out) all
+          (subst (λ k. Served g.row.K-Symbol.Denot (g.K.Kind.lawful k) c.args.out.now (take c.loop-i.i c.args.requests.now) (take c.loop-i.i c.loop-i.answers) c.loop-i.out) new.made.0 c.loop-i.invariant.0.so_far);
       untouched = subst (λ n. drop n c.loop-i.answers ≡ drop n c.args.answers.now) all c.loop-i.invariant.1;
       law = new.law;
     }

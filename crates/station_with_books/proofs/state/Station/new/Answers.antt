@@ -9,5 +9,5 @@ returns g c =
       made = (refl, refl, refl, refl);
       stands = record { kind_is = refl; sum_is = refl; reads_is = refl; book_is = tt };
       linked = λ s log link. linked_lawful g.K.Kind.lawful c.args.kind (record { kind_is = refl; sum_is = refl; reads_is = refl; book_is = tt }) link;
-      law = the_law (g.K.Kind.lawful c.args.kind) g.K.Symbol.Denot;
+      law = the_law (g.K.Kind.lawful c.args.kind) g.row.K-Symbol.Denot;
     }
