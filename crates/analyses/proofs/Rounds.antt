@@ -72,8 +72,8 @@ module _ (k : ℕ) (roots : List ℕ) (flags before after : List Bool) (changed 
     );
   }
 
-  pub round_mark : k < length after → get_or after k false ≡ false → get_or flags (get_or roots k 0) false ≡ true → Round (k + 1) roots flags before (set after k true) true
-  round_mark l h f = record {
+  marked : k < length after → get_or after k false ≡ false → get_or flags (get_or roots k 0) false ≡ true → Round (k + 1) roots flags before (set after k true) true
+  marked l h f = record {
     as_long = length-set after k true ∙ b.as_long;
     new = λ n e.
         ⊎_elim (λ (q : n ≡ k). inr (omega arith, subst (λ j. get_or flags (get_or roots j 0) false ≡ true) (sym q) f))
@@ -83,6 +83,10 @@ module _ (k : ℕ) (roots : List ℕ) (flags before after : List Bool) (changed 
         ⊎_elim (λ (c : changed ≡ true). omega (arith, u, b.fewer c)) (λ (c : changed ≡ false). omega (arith, u, ap unmarked (b.still c).0)) (cases_Bool changed);
     still = λ c. absurd (false≢true (sym c));
   }
+
+  -- what is so marked, under other names
+  pub round_mark : (marks : List Bool) (new : Bool) → marks ≡ set after k true → new ≡ true → k < length after → get_or after k false ≡ false → get_or flags (get_or roots k 0) false ≡ true → Round (k + 1) roots flags before marks new
+  round_mark marks new m e l h f = rw (m, e) (marked l h f)
 
 -- The rules of a grammar that a book holds stand where its roots say.
 roots_stand : (book : Book) (g : Grammar) → Holds book g → (n : ℕ) → n < length g.rules → Stands (laid book.table) (get_or (rooted book.roots) n 0) (body g.rules n)

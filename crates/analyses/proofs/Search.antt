@@ -1,12 +1,12 @@
 -- The first node that passes a test is the first expression of which it tells.
 use Rattle.std.proofs.Common.{◌≡◌, ℕ, ◌+◌, ◌<◌, ◌≤◌, Bool, true, false, cond, List, [], ◌∷◌, ◌++◌, length, get_or, drop, Some, None as None', codes, Option, sym, refl, ap, ◌∙◌, subst, arith}
 use Rattle.std.proofs.lemmas.List.{append_assoc, length-append, at_drop_more, at_drop_all}
-use Rattle.std.proofs.lemmas.Bool.{leb-true, leb-false, false≢true, cond-true, cond-false, both_ways}
+use Rattle.std.proofs.lemmas.Bool.{leb-true, leb-false, false≢true, cond-true, both_ways}
 use Rattle.grammar.specs.declared.node.Node.{Node}
 use Rattle.grammar.specs.declared.book.Book.{Book}
 use Rattle.grammar.specs.Expr.{Expr, empty, any, term, call, seq, alt, star, not, size, Grammar}
 use Rattle.grammar.specs.Spelling.{width}
-use Rattle.grammar.specs.Allowed.{Placed, placed, past, parts, rule_parts, rules_at, expressions, line_width, Missing, Loop, Found}
+use Rattle.grammar.specs.Allowed.{Placed, placed, past, parts, rule_parts, rules_at, expressions, line_width, Missing, Loop, Earliest, Found}
 use Rattle.grammar.specs.Tables.{blank, laid, listed, rooted}
 use Rattle.grammar.specs.Layout.{root, flat, flats}
 use Rattle.grammar.specs.Held.{Holds}
@@ -78,16 +78,13 @@ module _ (ns : List Node) (test : ℕ → Node → Bool) (P : Expr → Type 0) (
       found_flat i p e xs (rule_parts (at + line_width e) es) (stands_flat ns before xs i p e l h)
       (found_flats (before ++ x) (i + size e) (at + line_width e) es (omega (arith, length-append before x, flat_length i p e)) (h ∙ sym (append_assoc before x xs)))
 
--- One step of the search: the node passes, or it does not, or there are no more nodes.
+-- The search stops at a node that passes, and ends where there are no more nodes.
 module _ (test : ℕ → Node → Bool) (ns : List Node) (i : ℕ) (r : Option ℕ) (so_far : first_from test i (drop i ns) ≡ r) where
   step : i < length ns → cond (test i (get_or ns i blank)) (Some (get_or ns i blank).place) (first_from test (i + 1) (drop (i + 1) ns)) ≡ r
   step l = sym (at_drop_more (first_from test i) ns i blank l) ∙ so_far
 
   pub search_stops : i < length ns → test i (get_or ns i blank) ≡ true → r ≡ Some (get_or ns i blank).place
   search_stops l q = sym (step l) ∙ cond-true (test i (get_or ns i blank)) (Some (get_or ns i blank).place) (first_from test (i + 1) (drop (i + 1) ns)) q
-
-  pub search_goes_on : i < length ns → test i (get_or ns i blank) ≡ false → first_from test (i + 1) (drop (i + 1) ns) ≡ r
-  search_goes_on l q = sym (cond-false (test i (get_or ns i blank)) (Some (get_or ns i blank).place) (first_from test (i + 1) (drop (i + 1) ns)) q) ∙ step l
 
   pub search_ends : length ns ≤ i → r ≡ None'
   search_ends l = sym so_far ∙ at_drop_all (first_from test i) ns i l
@@ -116,6 +113,10 @@ first_missing_lem book classes rules r c k e g h =
     let tells = subst (λ n. Tells ns (missing_at classes n) (Missing g)) k' (subst (λ n. Tells ns (missing_at n (length g.rules)) (Missing g)) c' (tells_missing g ns)) in
     subst (λ o. Found (Missing g) (expressions g) o) e (found_in_book book g h (missing_at classes rules) (Missing g) tells)
 
+-- Where it stops at a node, that node's place is the place of the first of them.
+pub first_missing_here : (book : Book) (classes rules place : ℕ) → classes ≡ length (listed book.classes) → rules ≡ length (rooted book.roots) → first_from (missing_at classes rules) 0 (laid book.table) ≡ Some place → (g : Grammar) → Holds book g → Earliest (Missing g) (expressions g) place
+first_missing_here book classes rules place = first_missing_lem book classes rules (Some place)
+
 -- With the right flags, the test for an endless `star` tells of one.
 tells_loop : (g : Grammar) (ns : List Node) (marks flags : List Bool) → MarksRight g.rules marks → Flagged 0 ns marks flags → Tells ns (loop_at flags) (Loop g)
 tells_loop g ns marks flags right flagged i at empty s = (λ q. absurd (false≢true q), λ q m. m)
@@ -135,3 +136,7 @@ tells_loop g ns marks flags right flagged i at (not a) s = (λ q. absurd (false�
 pub first_loop_lem : (book : Book) (marks flags : List Bool) (r : Option ℕ) → ((g : Grammar) → Holds book g → MarksRight g.rules marks) → Flagged 0 (laid book.table) marks flags → first_from (loop_at flags) 0 (laid book.table) ≡ r → (g : Grammar) → Holds book g → Found (Loop g) (expressions g) r
 first_loop_lem book marks flags r right flagged e g h =
     subst (λ o. Found (Loop g) (expressions g) o) e (found_in_book book g h (loop_at flags) (Loop g) (tells_loop g (laid book.table) marks flags (right g h) flagged))
+
+-- Where it stops at a node, that node's place is the place of the first of them.
+pub first_loop_here : (book : Book) (marks flags : List Bool) (place : ℕ) → ((g : Grammar) → Holds book g → MarksRight g.rules marks) → Flagged 0 (laid book.table) marks flags → first_from (loop_at flags) 0 (laid book.table) ≡ Some place → (g : Grammar) → Holds book g → Earliest (Loop g) (expressions g) place
+first_loop_here book marks flags place = first_loop_lem book marks flags (Some place)

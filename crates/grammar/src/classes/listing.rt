@@ -1,3 +1,5 @@
+#![tactic(auto, unfolding(crate::specs::Tables::listed))]
+
 ghost use Rattle.std.specs.Prelude.{◌≡◌, [], ◌∷◌, ◌++◌, length, if◌then◌else◌, nat_lt, slice_index_or};
 ghost use Rattle.grammar.specs.Tables.{listed, no_class};
 

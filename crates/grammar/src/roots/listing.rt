@@ -1,3 +1,5 @@
+#![tactic(auto, unfolding(crate::specs::Tables::rooted))]
+
 ghost use Rattle.std.specs.Prelude.{◌≡◌, [], ◌∷◌, ◌++◌, length, if◌then◌else◌, nat_lt, slice_index};
 ghost use Rattle.grammar.specs.Tables.{rooted};
 

@@ -1,3 +1,5 @@
+#![tactic(auto, unfolding(crate::specs::Tables::laid))]
+
 ghost use Rattle.std.specs.Prelude.{◌≡◌, ℕ, ◌+◌, ◌<◌, ◌≤◌, [], ◌∷◌, ◌++◌, length, if◌then◌else◌, Some, None, nat_lt, slice_index_or, slice_set};
 ghost use Rattle.grammar.specs.Tables.{laid, blank};
 
@@ -62,6 +64,7 @@ impl Table {
     }
 
     /// Fills the room with this number: the expression ends where the table does.
+    #[tactic(auto, using(crate::proofs::Counted::counted), unfolding(crate::specs::Tables::laid))]
     pub fn fill(&mut self, slot: u16, operator: Operator, place: u16)
         ensures { laid self.new ≡ slice_set (laid self.old) slot (record { operator = operator; end = length (laid self.old); place = place }) }
     {

@@ -1,4 +1,5 @@
 use Rattle.std.proofs.Common.{false, get_or, sym, ap, ◌∙◌, arith}
+use Rattle.std.proofs.lemmas.Grind.{common_steps}
 use Rattle.std.proofs.lemmas.Bool.{false≢true}
 use Rattle.analyses.proofs.Rounds.{rooted_short, round_skip, round_mark}
 use Rattle.analyses.proofs.nullable.mark_rules.Goals as goal
@@ -15,7 +16,7 @@ loop-n-preserved c =
     let l = rooted_short c.args.roots.now in
     elim c.if-not-marks-n.branch [
       | then-not-marks-n+then-flag_at w ↦
-          rw (w.marks-is, w.changed-is) (round_mark c.loop-n.n _ _ _ _ _ c.loop-n.invariant (omega arith) w.if-not-marks-n.true (ap (λ k. get_or c.args.flags.now k false) (sym w.root.ensures) ∙ sym w.flag_at.ensures ∙ w.if-flag_at.true))
+          round_mark c.loop-n.n _ _ _ _ _ c.loop-n.invariant c.if-not-marks-n.marks c.if-not-marks-n.changed (cc) (cc) (omega arith) w.if-not-marks-n.true (grind (arith, common_steps))
       | else-not-marks-n w ↦ rw (w.marks-is, w.changed-is) (round_skip c.loop-n.n _ _ _ _ _ c.loop-n.invariant
           (elim w.else-not-marks-n.branch [
             | else-not-marks-n-via-then-not-marks-n+else-flag_at u ↦ λ h. absurd (false≢true (sym u.if-flag_at.false ∙ u.flag_at.ensures ∙ ap (λ k. get_or c.args.flags.now k false) u.root.ensures ∙ h))
