@@ -7,7 +7,7 @@ use Rattle.grammar.specs.Expr.{Expr, empty, any, term, call, seq, alt, star, not
 use Rattle.grammar.specs.Spelling.{spell, width}
 use Rattle.grammar.specs.Allowed.{past}
 use Rattle.grammar.specs.Layout.{flat, below, root, operator_of}
-use Rattle.writing.specs.Walk.{opening, opened, closings, still_open, while_open, walked}
+use Rattle.writing.specs.Walk.{opening, closings, still_open, while_open, walked}
 
 -- The bytes from the node i on, when those that end there are not closed yet.
 abbrev resumed : ℕ → List ℕ → List Node → List ℕ

@@ -52,8 +52,8 @@ fn a_book_that_just_fits(rt: HostRuntime) {
 fn bytes_past_the_book_stay(rt: HostRuntime) {
     let mut out = [7; 90];
     assert_eq!(rt; write_book(&sample(), &mut out), Some(85));
-    assert_eq!(rt; &out[0..85], TEXT);
-    assert_eq!(rt; &out[85..90], &[7; 5]);
+    assert_eq!(rt; &out[0..85], TEXT.as_slice());
+    assert_eq!(rt; &out[85..90], [7; 5].as_slice());
 }
 
 #[test]

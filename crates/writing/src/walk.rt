@@ -68,8 +68,8 @@ fn put_closings(next: u16, stack: &mut Stack<'_, OpenExpr>, out: &mut [u8]) -> u
 
 // Opens the expression of a node, and closes those that end before the node `next`, which follows.
 fn put_node(node: Node, next: u16, stack: &mut Stack<'_, OpenExpr>, out: &mut [u8]) -> usize
-    requires records_len { length stack.old.records.now ≡ 64 }
-    requires stack_in_bounds { length (opening node.operator) + length (closings next (opened node.end (ends (held stack.old)))) ≤ length out.old }
+    requires size { length stack.old.records.now ≡ 64 }
+    requires room { length (opening node.operator) + length (closings next (opened node.end (ends (held stack.old)))) ≤ length out.old }
     ensures bytes { Put (opening node.operator ++ closings next (opened node.end (ends (held stack.old)))) out.old result out.new }
     ensures left { ends (held stack.new) ≡ still_open next (opened node.end (ends (held stack.old))) }
     ensures size { length stack.new.records.now ≡ 64 }
@@ -82,8 +82,8 @@ fn put_node(node: Node, next: u16, stack: &mut Stack<'_, OpenExpr>, out: &mut [u
 
 // Writes the nodes from `start` on, until nothing is open any more.
 fn put_nodes(table: &Table, start: u16, stack: &mut Stack<'_, OpenExpr>, out: &mut [u8]) -> usize
-    requires records_len { length stack.old.records.now ≡ 64 }
-    requires table_in_bounds { length (walked start (ends (held stack.old)) (drop start (laid table.now))) ≤ length out.old }
+    requires size { length stack.old.records.now ≡ 64 }
+    requires room { length (walked start (ends (held stack.old)) (drop start (laid table.now))) ≤ length out.old }
     ensures { Put (walked start (ends (held stack.old)) (drop start (laid table.now))) out.old result out.new }
 {
     let mut count = 0;

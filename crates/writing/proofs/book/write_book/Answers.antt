@@ -7,27 +7,27 @@ use Rattle.writing.proofs.Puts.{put_two, same_put}
 use Rattle.writing.proofs.Held.{lines_spell, lines_count, lines_room}
 use Rattle.writing.proofs.book.write_book.Goals as goal
 
-pub put-classes-count-requires : goal.put-classes-count-requires
-put-classes-count-requires c = search (rules, lines_room c.args.book.now)
+pub put_classes-count-requires : goal.put_classes-count-requires
+put_classes-count-requires c = search (rules, lines_room c.args.book.now)
 
-pub slice-bounds-put-rules-count : goal.slice-bounds-put-rules-count
-slice-bounds-put-rules-count c = search (rules, lines_room c.args.book.now)
+pub slice_bounds-put_rules-count : goal.slice_bounds-put_rules-count
+slice_bounds-put_rules-count c = search (rules, lines_room c.args.book.now)
 
-pub slice-bounds-put-rules-start : goal.slice-bounds-put-rules-start
-slice-bounds-put-rules-start c = search (rules, lines_room c.args.book.now)
+pub slice_bounds-put_rules-start : goal.slice_bounds-put_rules-start
+slice_bounds-put_rules-start c = search (rules, lines_room c.args.book.now)
 
-pub put-rules-requires : goal.put-rules-requires
-put-rules-requires c = simp (length-take, length-drop) (omega (arith, c.put-classes-count.ensures.0, lines_room c.args.book.now))
+pub put_rules-requires : goal.put_rules-requires
+put_rules-requires c = simp (length-take, length-drop) (omega (arith, c.put_classes-count.ensures.0, lines_room c.args.book.now))
 
-pub overflow-add-result : goal.overflow-add-result
-overflow-add-result c = search (rules, lines_room c.args.book.now)
+pub overflow_add-result : goal.overflow_add-result
+overflow_add-result c = search (rules, lines_room c.args.book.now)
 
 pub returns : goal.returns
 returns c =
     let book = c.args.book.now in
     let out = c.args.out.now in
     let room = lines_room book in
-    let put = put_two (spell_classes (listed book.classes) []) (rule_lines (laid book.table) (rooted book.roots)) out _ _ _ _ (omega arith) c.put-classes-count.ensures c.put-rules.ensures in
+    let put = put_two (spell_classes (listed book.classes) []) (rule_lines (laid book.table) (rooted book.roots)) out _ _ _ _ (omega arith) c.put_classes-count.ensures c.put_rules.ensures in
     record {
       answer = ap Some (put.0 ∙ lines_count book) ∙ sym (ap (λ b. cond b (Some book.length) None) (le-leb book.length (length out) (omega arith)));
       refused = λ e. let clash : ◌≡◌ {A = ℕ} 0 1 = cc in absurd (omega arith);

@@ -10,5 +10,5 @@ returns c =
     let e = walked c.args.start [] (drop c.args.start (laid c.args.table.now)) in
     let end = codes ")\n" in
     let p = first (codes "(rule") (e ++ end) c.args.out.now _ _ (omega (arith, rule_length (laid c.args.table.now) c.args.start)) c.put-count.ensures in
-    let q = more _ e end _ _ _ p _ _ c.put-expr-count.ensures in
+    let q = more _ e end _ _ _ p _ _ c.put_expr-count.ensures in
     all_put _ _ _ _ (more _ end [] _ _ _ q _ _ c.put-count-2.ensures)

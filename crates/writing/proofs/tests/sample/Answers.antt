@@ -20,9 +20,9 @@ added most x l = cond (ltb (length l) most) (l ++ (x ∷ [])) l
 abbrev filled : ℕ → Operator → ℕ → List Node → List Node
 filled slot operator place l = set l slot (record { operator = operator; end = length l; place = place })
 
-pub invariant-of-result : goal.invariant-of-result
+pub invariant_of-result : goal.invariant_of-result
 unfolding digits
-invariant-of-result c =
+invariant_of-result c =
     let a = c.reserve-2.ensures.laid ∙ ap (added 512 blank) (c.reserve.ensures.laid ∙ ap (added 512 blank) c.new-table.ensures) in
     let b = c.fill.ensures ∙ ap (filled 1 (Term 0) 25) a in
     let d = c.reserve-5.ensures.laid ∙ ap (added 512 blank) (c.reserve-4.ensures.laid ∙ ap (added 512 blank) (c.reserve-3.ensures.laid ∙ ap (added 512 blank) b)) in
@@ -31,8 +31,9 @@ invariant-of-result c =
     let h = c.fill-6.ensures ∙ ap (filled 0 Seq 20) (c.fill-5.ensures ∙ ap (filled 2 Star 34) f) in
     let i = c.reserve-8.ensures.laid ∙ ap (added 512 blank) (c.reserve-7.ensures.laid ∙ ap (added 512 blank) h) in
     let nodes = c.fill-8.ensures ∙ ap (filled 6 Not 70) (c.fill-7.ensures ∙ ap (filled 7 Empty 75) i) in
-    let roots = c.push-3.ensures ∙ ap (added 32 6) (c.push-2.ensures ∙ ap (added 32 0) c.new-roots.ensures) in (
-      ∣ (
+    let roots = c.push-3.ensures ∙ ap (added 32 6) (c.push-2.ensures ∙ ap (added 32 0) c.new-roots.ensures) in
+    record {
+      known = ∣ (
         grammar,
         record {
           classes_are = c.push.ensures ∙ ap (added 64 (record { first = 65; second = 90 })) c.new-classes.ensures;
@@ -41,6 +42,5 @@ invariant-of-result c =
           length_is = refl;
           shallow = (omega arith, (omega arith, tt));
         },
-      ) ∣₁,
-      tt,
-    )
+      ) ∣₁;
+    }
