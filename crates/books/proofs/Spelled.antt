@@ -220,6 +220,6 @@ pub reading_complete : (lawful : Class → Bool) (g : Grammar) → Within lawful
 unfolding reading
 reading_complete lawful g w =
     let bs : List ℕ = spelling g in
-    let p = classes_then bs lawful g.classes g.rules w.few-classes w.some-rule w.each-class in
-    let q = rules_complete bs g.rules 32 [] 0 p.0 w.some-rule w.few-rules (omega (arith, w.few-expressions)) w.each-rule in
+    let p = classes_then bs lawful g.classes g.rules w.few_classes w.some_rule w.each_class in
+    let q = rules_complete bs g.rules 32 [] 0 p.0 w.some_rule w.few_rules (omega (arith, w.few_expressions)) w.each_rule in
     (q.0, after_ok _ p.1 ∙ after_ok _ q.1)
