@@ -1,8 +1,8 @@
-use Rattle.std.proofs.Common.{◌≡◌, ℕ, ◌+◌, ◌-◌, ◌<◌, ◌≤◌, sym, refl, ap, ◌∙◌, arith, rules}
+use Rattle.std.proofs.Common.{refl, arith}
 use Rattle.std.proofs.lemmas.Result.{err_from_is_err_and}
-use Rattle.books.specs.Verdict.{Accepts, Refuses, too_long, unread, missing, loops}
+use Rattle.books.specs.Verdict.{too_long, unread, missing, loops}
 use Rattle.books.proofs.Verdicts.{accepted_as_spelled, spelled_once, one_verdict}
-use Rattle.books.proofs.Tabled.{classes_refused, rules_refused, held, held_read, tabled}
+use Rattle.books.proofs.Tabled.{classes_refused, rules_refused, held_read, tabled}
 use Rattle.books.proofs.book.read_book.Goals as goal
 
 pub returns-then-bytes-gt-MOST_BYTES : goal.returns-then-bytes-gt-MOST_BYTES

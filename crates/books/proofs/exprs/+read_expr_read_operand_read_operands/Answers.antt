@@ -1,4 +1,4 @@
-use Rattle.std.proofs.Common.{◌≡◌, ℕ, ◌+◌, ◌-◌, ◌*◌, ◌<◌, ◌≤◌, sym, refl, ap, ◌∙◌, arith, rules}
+use Rattle.std.proofs.Common.{sym, refl, ◌∙◌, arith}
 use Rattle.std.proofs.lemmas.Result.{err_from_is_err_and}
 use Rattle.books.proofs.Outs.{operand_ok, operand_no, open_no, head_no, many, operands_no, deep, expression_none, expression_both, space_no, number_no, one_no, first_no}
 use Rattle.books.proofs.Grows.{head_place, space_moved, roomed, reserved, unreserved, filled_leaf, filled_number, filled_one, filled_second, filled_two, grown_operands_no, grown_close_no, grown}

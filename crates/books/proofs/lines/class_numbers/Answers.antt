@@ -1,4 +1,3 @@
-use Rattle.std.proofs.Common.{◌≡◌, ℕ, ◌+◌, ◌-◌, ◌<◌, ◌≤◌, sym, refl, ap, ◌∙◌, arith, rules}
 use Rattle.std.proofs.lemmas.Result.{err_from_is_err_and}
 use Rattle.books.proofs.Rows.{first_space_no, first_no, second_space_no, second_no, numbers_close_no, numbers_ok}
 use Rattle.books.proofs.lines.class_numbers.Goals as goal

@@ -1,4 +1,4 @@
-use Rattle.std.proofs.Common.{◌≡◌, ℕ, ◌+◌, ◌-◌, ◌<◌, ◌≤◌, sym, refl, ap, ◌∙◌, arith, rules}
+use Rattle.std.proofs.Common.{arith}
 use Rattle.std.proofs.lemmas.Result.{err_from_is_err_and}
 use Rattle.books.proofs.Rows.{line_open_no, line_rule_no, line_many, line_expr_no, line_close_no, line_feed_no, line_lined}
 use Rattle.books.proofs.lines.read_rule.Goals as goal
