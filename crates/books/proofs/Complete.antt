@@ -1,16 +1,15 @@
 -- What is spelled within the limits is read.
-use Rattle.std.proofs.Common.{◌≡◌, ℕ, zero, suc, ◌+◌, ◌-◌, ◌^◌, ◌<◌, ◌≤◌, max, Bool, true, false, cond, ◌&&◌, eqb, ltb, leb, List, [], ◌∷◌, ◌++◌, length, get_or, take, drop, codes, decimal, sym, refl, ap, ◌∙◌, subst, append_assoc, one-add, arith}
+use Rattle.std.proofs.Common.{◌≡◌, ℕ, zero, suc, ◌+◌, ◌^◌, ◌<◌, ◌≤◌, true, false, ◌&&◌, eqb, ltb, List, [], ◌∷◌, ◌++◌, length, get_or, take, drop, codes, decimal, refl, ap, ◌∙◌, one-add, arith}
 use Rattle.std.specs.List.{prefix_len}
 use Rattle.std.specs.Str.{all_ascii_digits}
 use Rattle.std.proofs.lemmas.Fmt.{digits_decimal, digits_value-decimal, decimal_nonempty, first_decimal, decimal_digit}
-use Rattle.std.proofs.lemmas.List.{take_at, drop_at, get_or_append_left}
-use Rattle.std.proofs.lemmas.Bool.{cond_both, and_parts, le-ltb, and_left, and_right, ne_eqb, leb-true, lt-leb, cond-true, cond-false}
+use Rattle.std.proofs.lemmas.List.{take_at, drop_at}
+use Rattle.std.proofs.lemmas.Bool.{and_parts, le-ltb, leb-true, cond-true, cond-false}
 use Rattle.std.proofs.lemmas.Bool.Decides.{nat_tests}
-use Rattle.tokens.specs.Out.{Out, ok, no, after, inside}
-use Rattle.tokens.specs.Lexing.{letter, digit, value, number_token, lexing}
+use Rattle.tokens.specs.Out.{Out, ok}
+use Rattle.tokens.specs.Lexing.{digit, value, number_token, lexing}
 use Rattle.tokens.specs.declared.token.Word.TheVariants.{Rule}
-use Rattle.tokens.specs.declared.token.Token.{Token}
-use Rattle.tokens.specs.declared.token.Token.TheVariants.{Open, Close, Space, Feed, Letters, Number, End}
+use Rattle.tokens.specs.declared.token.Token.TheVariants.{Open, Close, Space, Feed, Letters, Number}
 use Rattle.tokens.proofs.Lexes.{lex_digits}
 use Rattle.grammar.specs.Expr.{Expr, empty, any, term, call, seq, alt, star, not, size, nesting}
 use Rattle.grammar.specs.Spelling.{spell}
@@ -28,7 +27,7 @@ use Rattle.books.specs.declared.head.Head.TheVariants.{Leaf, Numbered, One, Two}
 use Rattle.books.specs.declared.head.LineWord.TheVariants.{Class as ClassLine, Rule as RuleLine}
 use Rattle.books.specs.Heads.{leaf, numbered, one, two, leaf_word, numbered_word, one_word, two_word}
 use Rattle.books.specs.Tests.{is_open, is_close, is_space, is_feed, is_rule}
-use Rattle.books.specs.Reading.{expecting, valued, numbering, heading, operand, operands, bracketed, expression, Reader, line_heading}
+use Rattle.books.specs.Reading.{expecting, valued, numbering, heading, operand, operands, expression, line_heading}
 use Rattle.books.proofs.Lexed.{own}
 use Rattle.books.proofs.Outs.{operand_ok, leaf_ok, number_ok, one_ok, two_ok, close_ok, inner}
 

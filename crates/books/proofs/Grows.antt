@@ -1,11 +1,10 @@
 -- What has been read stands in the table.
-use Rattle.std.proofs.Common.{◌≡◌, ℕ, zero, suc, ◌+◌, ◌-◌, ◌<◌, ◌≤◌, Bool, true, false, cond, ltb, List, [], ◌∷◌, ◌++◌, length, drop, set, Some, None, Option, sym, refl, ap, ◌∙◌, subst, append_assoc, arith, length-append, length-drop}
+use Rattle.std.proofs.Common.{◌≡◌, ℕ, suc, ◌+◌, ◌-◌, ◌<◌, ◌≤◌, Bool, true, false, cond, ltb, List, [], ◌∷◌, ◌++◌, length, drop, set, Some, None, Option, sym, refl, ap, ◌∙◌, subst, append_assoc, arith, length-append, length-drop}
 use Rattle.std.proofs.lemmas.List.{append-nil, set_at}
 use Rattle.std.proofs.lemmas.Bool.{ltb-true, ltb-false, lt-ltb}
-use Rattle.tokens.specs.Out.{Out, ok, no, after, inside}
+use Rattle.tokens.specs.Out.{Out, ok, no, inside}
 use Rattle.tokens.specs.declared.token.Token.{Token}
 use Rattle.grammar.specs.declared.node.Operator.{Operator}
-use Rattle.grammar.specs.declared.node.Node.{Node}
 use Rattle.grammar.specs.declared.table.Table.{Table}
 use Rattle.grammar.specs.Expr.{Expr, size}
 use Rattle.grammar.specs.Spelling.{spell, width}
@@ -24,9 +23,9 @@ use Rattle.books.specs.declared.head.Head.{Head}
 use Rattle.books.specs.declared.head.Head.TheVariants.{Leaf, Numbered, One, Two}
 use Rattle.books.specs.Tests.{is_open, is_close, is_space}
 use Rattle.books.specs.Heads.{leaf, numbered, one, two, leaf_op, numbered_op, one_op, two_op, one_word, two_word, head_word}
-use Rattle.books.specs.Reading.{expecting, numbering, heading, operand, operands, expression, Reader}
+use Rattle.books.specs.Reading.{expecting, numbering, heading, operand, operands, expression}
 use Rattle.books.specs.Steps.{count, Grown, Filled}
-use Rattle.books.proofs.Lexed.{Gives, given, none}
+use Rattle.books.proofs.Lexed.{Gives, given}
 use Rattle.books.proofs.Heads.{op_leaf, below_leaf, op_numbered, below_numbered, op_one, below_one, op_two, below_two}
 use Rattle.books.proofs.Sound.{open_gives, head_gives, space_gives, operand_sound, expression_sound}
 use Rattle.books.proofs.Outs.{leaf_ok, number_ok, one_ok, two_ok, second_no, close_ok, close_no, operands_no, inner, expression_some}

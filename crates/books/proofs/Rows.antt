@@ -1,12 +1,11 @@
 -- The definitions of lines, read one step at a time, and what the tables have got of them.
-use Rattle.std.proofs.Common.{◌≡◌, ℕ, zero, suc, ◌+◌, ◌-◌, ◌<◌, ◌≤◌, Bool, true, false, cond, eqb, ltb, List, [], ◌∷◌, ◌++◌, length, drop, codes, sym, refl, ap, ◌∙◌, append_assoc, zero-add, arith, length-append, length-drop}
+use Rattle.std.proofs.Common.{◌≡◌, ℕ, zero, suc, ◌+◌, ◌-◌, ◌<◌, ◌≤◌, Bool, true, false, cond, ltb, List, [], ◌∷◌, ◌++◌, length, drop, codes, sym, refl, ap, ◌∙◌, append_assoc, zero-add, arith, length-append, length-drop}
 use Rattle.std.proofs.lemmas.Bool.{eq-eqb, ne_eqb, lt-ltb}
 use Rattle.std.proofs.lemmas.List.{append-nil, length_push}
 use Rattle.kinds.specs.declared.class.Class.{Class}
-use Rattle.tokens.specs.Out.{Out, ok, no, after, inside}
+use Rattle.tokens.specs.Out.{Out, ok, no, inside}
 use Rattle.tokens.specs.Spots.{spot}
 use Rattle.tokens.specs.declared.token.Token.{Token}
-use Rattle.grammar.specs.declared.node.Node.{Node}
 use Rattle.grammar.specs.declared.table.Table.{Table}
 use Rattle.grammar.specs.declared.roots.Roots.{Roots}
 use Rattle.grammar.specs.Expr.{Expr, size}
@@ -21,7 +20,7 @@ use Rattle.books.specs.declared.fault.BookFault.TheVariants.{InExpr, TooMany, Un
 use Rattle.books.specs.declared.head.LineWord.{LineWord}
 use Rattle.books.specs.declared.head.LineWord.TheVariants.{Class as ClassLine, Rule as RuleLine}
 use Rattle.books.specs.Tests.{is_open, is_close, is_space, is_feed, is_rule}
-use Rattle.books.specs.Reading.{expecting, numbering, operand, expression, line_heading, line_start_lem, class_numbers_lem, class_line, by_word, class_lines, rule_line, onward, rule_lines}
+use Rattle.books.specs.Reading.{expecting, numbering, operand, expression, line_heading, line_start_lem, class_numbers_lem, class_line, class_lines, rule_line, onward, rule_lines}
 use Rattle.books.specs.Steps.{count, Grown, Lined, line_widths, Begun, Ruled}
 use Rattle.books.proofs.Outs.{after_ok, after_no, inside_ok, inside_no}
 use Rattle.books.proofs.Sound.{close_gives, feed_gives, rule_gives}

@@ -1,9 +1,8 @@
 -- What is read is spelled: tokens that the layout wants, and expressions.
-use Rattle.std.proofs.Common.{◌≡◌, ℕ, zero, suc, ◌+◌, ◌-◌, ◌<◌, ◌≤◌, max, Bool, true, false, cond, leb, List, [], ◌∷◌, ◌++◌, length, drop, codes, decimal, sym, refl, ap, ◌∙◌, subst, append_assoc, arith}
+use Rattle.std.proofs.Common.{◌≡◌, ℕ, zero, suc, ◌+◌, ◌<◌, ◌≤◌, Bool, true, leb, List, ◌∷◌, ◌++◌, codes, decimal, sym, ap, ◌∙◌, arith}
 use Rattle.std.proofs.lemmas.Bool.{cond_both, leb-false, false≢true}
-use Rattle.tokens.specs.Out.{Out, ok, no, after, inside}
+use Rattle.tokens.specs.Out.{Out, ok, no, inside}
 use Rattle.tokens.specs.Spots.{spot}
-use Rattle.tokens.specs.Lexing.{lexing}
 use Rattle.tokens.specs.declared.token.Word.{Word}
 use Rattle.tokens.specs.declared.token.Word.TheVariants.{Class, Rule, Empty, Any, Term, Call, Seq, Alt, Star, Not, Other}
 use Rattle.tokens.specs.declared.token.Token.{Token}
@@ -12,9 +11,7 @@ use Rattle.tokens.specs.declared.token.TokenFault.{TokenFault}
 use Rattle.grammar.specs.Expr.{Expr, size, nesting}
 use Rattle.grammar.specs.Spelling.{spell}
 use Rattle.grammar.specs.Allowed.{NumbersFit}
-use Rattle.books.specs.declared.fault.ExprFault.{ExprFault}
-use Rattle.books.specs.declared.fault.ExprFault.TheVariants.{InToken, Unwanted, TooDeep}
-use Rattle.books.specs.declared.fault.BookFault.{BookFault}
+use Rattle.books.specs.declared.fault.ExprFault.TheVariants.{Unwanted}
 use Rattle.books.specs.declared.fault.BookFault.TheVariants.{InExpr, TooMany}
 use Rattle.books.specs.declared.head.Head.{Head}
 use Rattle.books.specs.declared.head.Head.TheVariants.{Leaf, Numbered, One, Two}

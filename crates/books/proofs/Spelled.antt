@@ -1,5 +1,5 @@
 -- A book is read exactly when a grammar within the limits spells it.
-use Rattle.std.proofs.Common.{◌≡◌, ℕ, zero, suc, ◌+◌, ◌-◌, ◌<◌, ◌≤◌, Bool, true, false, cond, eqb, List, [], ◌∷◌, ◌++◌, length, drop, codes, decimal, sym, refl, ap, ◌∙◌, subst, append_assoc, arith}
+use Rattle.std.proofs.Common.{◌≡◌, ℕ, zero, suc, ◌+◌, ◌<◌, ◌≤◌, Bool, true, eqb, List, [], ◌∷◌, ◌++◌, length, codes, decimal, sym, refl, ap, ◌∙◌, subst, append_assoc, arith}
 use Rattle.std.proofs.lemmas.Bool.{cond_both, eqb-false}
 use Rattle.std.proofs.lemmas.List.{append-nil}
 use Rattle.kinds.specs.declared.class.Class.{Class}
@@ -8,18 +8,15 @@ use Rattle.tokens.specs.Spots.{spot}
 use Rattle.grammar.specs.Expr.{Expr, Grammar, size, nesting}
 use Rattle.grammar.specs.Spelling.{spell, spell_class, spell_rule, spell_classes, spell_rules, spelling}
 use Rattle.grammar.specs.Allowed.{NumbersFit, ClassFits, Each, sizes, Within}
-use Rattle.books.specs.declared.fault.ExprFault.{ExprFault}
 use Rattle.books.specs.declared.fault.BookFault.{BookFault}
 use Rattle.books.specs.declared.fault.BookFault.TheVariants.{InExpr, TooMany, Unlawful}
 use Rattle.books.specs.declared.head.LineWord.{LineWord}
 use Rattle.books.specs.declared.head.LineWord.TheVariants.{Class as ClassLine, Rule as RuleLine}
-use Rattle.books.specs.Tests.{is_open, is_close, is_space, is_feed, is_rule}
-use Rattle.books.specs.Reading.{expecting, numbering, operand, expression, line_start_lem, class_numbers_lem, class_line, by_word, class_lines, rule_line, onward, rule_lines, reading}
+use Rattle.books.specs.Reading.{expression, line_start_lem, class_numbers_lem, class_line, by_word, class_lines, rule_line, onward, rule_lines, reading}
 use Rattle.books.proofs.Lexed.{Gives, given, none, after_gives, inside_gives, gives_weaker}
 use Rattle.books.proofs.Sound.{open_gives, close_gives, space_gives, number_gives, feed_gives, rule_gives, line_word, line_word_gives, operand_sound, expression_sound}
 use Rattle.books.proofs.Complete.{Reads, open_there, close_there, space_there, feed_there, rule_there, class_line_there, rule_line_there, number_there, operand_there, expression_complete}
-use Rattle.books.proofs.Outs.{after_ok, inside_ok}
-use Rattle.books.proofs.Grows.{given_at}
+use Rattle.books.proofs.Outs.{after_ok}
 use Rattle.books.proofs.Rows.{start_on, numbers_ok, class_ok, classes_end, classes_on, line_ok, rules_on}
 
 outside : {E F A : Type 0} (g : E → F) {P : A → ℕ → List ℕ → Type 0} (o : Out E A) → Gives P (inside g o) → Gives P o
@@ -220,6 +217,6 @@ pub reading_complete : (lawful : Class → Bool) (g : Grammar) → Within lawful
 unfolding reading
 reading_complete lawful g w =
     let bs : List ℕ = spelling g in
-    let p = classes_then bs lawful g.classes g.rules w.few-classes w.some-rule w.each-class in
-    let q = rules_complete bs g.rules 32 [] 0 p.0 w.some-rule w.few-rules (omega (arith, w.few-expressions)) w.each-rule in
+    let p = classes_then bs lawful g.classes g.rules w.few_classes w.some_rule w.each_class in
+    let q = rules_complete bs g.rules 32 [] 0 p.0 w.some_rule w.few_rules (omega (arith, w.few_expressions)) w.each_rule in
     (q.0, after_ok _ p.1 ∙ after_ok _ q.1)

@@ -1,14 +1,14 @@
 -- The tables that the reader has filled hold the grammar that was read.
-use Rattle.std.proofs.Common.{◌≡◌, ℕ, suc, ◌+◌, ◌-◌, ◌<◌, ◌≤◌, Bool, true, List, [], ◌∷◌, ◌++◌, length, drop, codes, decimal, sym, refl, ap, ◌∙◌, subst, arith, length-append, length-drop}
+use Rattle.std.proofs.Common.{◌≡◌, ℕ, ◌+◌, ◌≤◌, Bool, List, [], ◌∷◌, ◌++◌, length, drop, decimal, sym, ap, ◌∙◌, arith, length-append, length-drop}
 use Rattle.kinds.specs.declared.class.Class.{Class}
-use Rattle.tokens.specs.Out.{Out, ok, no}
+use Rattle.tokens.specs.Out.{ok, no}
 use Rattle.grammar.specs.declared.classes.Classes.{Classes}
 use Rattle.grammar.specs.declared.table.Table.{Table}
 use Rattle.grammar.specs.declared.roots.Roots.{Roots}
 use Rattle.grammar.specs.Expr.{Expr, Grammar, nesting}
-use Rattle.grammar.specs.Spelling.{spell_class, spell_classes, spelling}
-use Rattle.grammar.specs.Allowed.{Each, NumbersFit, rules_at}
-use Rattle.grammar.specs.Tables.{laid, listed, rooted}
+use Rattle.grammar.specs.Spelling.{spell_classes}
+use Rattle.grammar.specs.Allowed.{Each, NumbersFit}
+use Rattle.grammar.specs.Tables.{listed}
 use Rattle.grammar.specs.Layout.{flats, Lays}
 use Rattle.books.specs.declared.fault.BookFault.{BookFault}
 use Rattle.books.specs.Reading.{class_lines, rule_lines, reading}

@@ -1,18 +1,18 @@
 -- Every book has one verdict, and it is accepted exactly when an allowed grammar spells it.
-use Rattle.std.proofs.Common.{◌≡◌, ℕ, suc, ◌+◌, ◌<◌, ◌≤◌, Bool, true, false, ◌⊎◌, List, [], length, Some, None as None', Option, sym, refl, ap, ◌∙◌, subst, inl, inr, ⊎_elim, arith}
+use Rattle.std.proofs.Common.{◌≡◌, ℕ, ◌<◌, ◌≤◌, Bool, ◌⊎◌, List, [], length, Some, None as None', Option, sym, refl, ap, ◌∙◌, subst, inl, inr, ⊎_elim, arith}
 use Rattle.std.proofs.lemmas.Bool.{cases_lt}
 use Rattle.kinds.specs.declared.class.Class.{Class}
 use Rattle.tokens.specs.Out.{Out, ok, no}
 use Rattle.tokens.specs.Spots.{spot}
 use Rattle.grammar.specs.Expr.{Grammar}
 use Rattle.grammar.specs.Spelling.{spelling}
-use Rattle.grammar.specs.Allowed.{Missing, Loop, None, Earliest, Found, expressions, Within, Allowed}
+use Rattle.grammar.specs.Allowed.{Missing, Loop, None, Earliest, Found, expressions, Within}
 use Rattle.analyses.proofs.Decided.{missing_found, loop_found, missing_once, loop_once}
 use Rattle.books.specs.declared.fault.BookFault.{BookFault}
-use Rattle.books.specs.declared.fault.BookFault.TheVariants.{TooLong, Missing as MissingFault, Loop as LoopFault}
+use Rattle.books.specs.declared.fault.BookFault.TheVariants.{Missing as MissingFault, Loop as LoopFault}
 use Rattle.books.specs.Reading.{reading}
 use Rattle.books.specs.Verdict.{Accepts, Refuses, too_long, unread, missing, loops, AcceptedAsSpelled, SpelledOnce, OneVerdict}
-use Rattle.books.proofs.Lexed.{Gives, given, none}
+use Rattle.books.proofs.Lexed.{Gives, given}
 use Rattle.books.proofs.Grows.{given_at}
 use Rattle.books.proofs.Spelled.{reading_sound, reading_complete}
 use Rattle.books.proofs.Once.{grammar_once}

@@ -1,5 +1,5 @@
 -- The layered reading of a book: its tokens, its expressions, its lines.
-use Rattle.std.specs.Prelude.{ℕ, zero, suc, ◌+◌, Bool, true, false, cond, List, [], ◌∷◌, ◌++◌, ◌==◌, nat_le}
+use Rattle.std.specs.Prelude.{ℕ, zero, suc, ◌+◌, Bool, cond, List, [], ◌∷◌, ◌++◌, ◌==◌, nat_le}
 use Rattle.kinds.specs.declared.class.Class.{Class as ClassOf}
 use Rattle.tokens.specs.Out.{Out, ok, no, after, inside}
 use Rattle.tokens.specs.Spots.{spot}

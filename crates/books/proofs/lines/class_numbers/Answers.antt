@@ -1,32 +1,31 @@
-use Rattle.std.proofs.Common.{◌≡◌, ℕ, ◌+◌, ◌-◌, ◌<◌, ◌≤◌, sym, refl, ap, ◌∙◌, arith, rules}
 use Rattle.std.proofs.lemmas.Result.{err_from_is_err_and}
 use Rattle.books.proofs.Rows.{first_space_no, first_no, second_space_no, second_no, numbers_close_no, numbers_ok}
 use Rattle.books.proofs.lines.class_numbers.Goals as goal
 
-pub returns-in-err-digits : goal.returns-in-err-digits
-returns-in-err-digits c =
-    let p = err_from_is_err_and c.from-residual.result c.from-residual.ensures.1 in
-    rw (p.1, p.2) (first_space_no _ _ _ c.in-err-digits.ensures)
+pub returns-in_err-digits : goal.returns-in_err-digits
+returns-in_err-digits c =
+    let p = err_from_is_err_and c.from_residual.result c.from_residual.ensures.1 in
+    rw (p.1, p.2) (first_space_no _ _ _ c.in_err-digits.ensures)
 
-pub returns-in-err-first : goal.returns-in-err-first
-returns-in-err-first c =
-    let p = err_from_is_err_and c.from-residual-in-err-first.result c.from-residual-in-err-first.ensures.1 in
-    rw (p.1, p.2) (first_no _ _ _ c.in-ok-digits.ensures.0 c.in-err-first.ensures)
+pub returns-in_err-first : goal.returns-in_err-first
+returns-in_err-first c =
+    let p = err_from_is_err_and c.from_residual-in_err-first.result c.from_residual-in_err-first.ensures.1 in
+    rw (p.1, p.2) (first_no _ _ _ c.in_ok-digits.ensures.0 c.in_err-first.ensures)
 
-pub returns-in-err-digits-2 : goal.returns-in-err-digits-2
-returns-in-err-digits-2 c =
-    let p = err_from_is_err_and c.from-residual-in-err-digits-2.result c.from-residual-in-err-digits-2.ensures.1 in
-    rw (p.1, p.2) (second_space_no _ _ _ c.in-ok-digits.ensures.0 c.in-ok-first.ensures.0 c.in-err-digits-2.ensures)
+pub returns-in_err-digits-2 : goal.returns-in_err-digits-2
+returns-in_err-digits-2 c =
+    let p = err_from_is_err_and c.from_residual-in_err-digits-2.result c.from_residual-in_err-digits-2.ensures.1 in
+    rw (p.1, p.2) (second_space_no _ _ _ c.in_ok-digits.ensures.0 c.in_ok-first.ensures.0 c.in_err-digits-2.ensures)
 
-pub returns-in-err-second : goal.returns-in-err-second
-returns-in-err-second c =
-    let p = err_from_is_err_and c.from-residual-in-err-second.result c.from-residual-in-err-second.ensures.1 in
-    rw (p.1, p.2) (second_no _ _ _ c.in-ok-digits.ensures.0 c.in-ok-first.ensures.0 c.in-ok-digits-2.ensures.0 c.in-err-second.ensures)
+pub returns-in_err-second : goal.returns-in_err-second
+returns-in_err-second c =
+    let p = err_from_is_err_and c.from_residual-in_err-second.result c.from_residual-in_err-second.ensures.1 in
+    rw (p.1, p.2) (second_no _ _ _ c.in_ok-digits.ensures.0 c.in_ok-first.ensures.0 c.in_ok-digits-2.ensures.0 c.in_err-second.ensures)
 
-pub returns-in-err-end : goal.returns-in-err-end
-returns-in-err-end c =
-    let p = err_from_is_err_and c.from-residual-in-err-end.result c.from-residual-in-err-end.ensures.1 in
-    rw (p.1, p.2) (numbers_close_no _ _ _ c.in-ok-digits.ensures.0 c.in-ok-first.ensures.0 c.in-ok-digits-2.ensures.0 c.in-ok-second.ensures.0 c.in-err-end.ensures)
+pub returns-in_err-end : goal.returns-in_err-end
+returns-in_err-end c =
+    let p = err_from_is_err_and c.from_residual-in_err-end.result c.from_residual-in_err-end.ensures.1 in
+    rw (p.1, p.2) (numbers_close_no _ _ _ c.in_ok-digits.ensures.0 c.in_ok-first.ensures.0 c.in_ok-digits-2.ensures.0 c.in_ok-second.ensures.0 c.in_err-end.ensures)
 
 pub returns : goal.returns
-returns c = (numbers_ok _ _ _ c.in-ok-digits.ensures.0 c.in-ok-first.ensures.0 c.in-ok-digits-2.ensures.0 c.in-ok-second.ensures.0 c.in-ok-end.ensures.0, c.in-ok-end.ensures.1)
+returns c = (numbers_ok _ _ _ c.in_ok-digits.ensures.0 c.in_ok-first.ensures.0 c.in_ok-digits-2.ensures.0 c.in_ok-second.ensures.0 c.in_ok-end.ensures.0, c.in_ok-end.ensures.1)

@@ -2,9 +2,9 @@ use Rattle.std.proofs.Common.{rules}
 use Rattle.books.specs.Reading.{heading}
 use Rattle.books.proofs.steps.head.Goals as goal
 
-pub returns-in-err-next : goal.returns-in-err-next
+pub returns-in_err-next : goal.returns-in_err-next
 unfolding heading
-returns-in-err-next c = search rules
+returns-in_err-next c = search rules
 
 pub returns-in-Letters-Empty-default : goal.returns-in-Letters-Empty-default
 unfolding heading
@@ -38,6 +38,6 @@ pub returns-in-Letters-Not-default : goal.returns-in-Letters-Not-default
 unfolding heading
 returns-in-Letters-Not-default c = search rules
 
-pub returns-in-default : goal.returns-in-default
+pub returns-in_default : goal.returns-in_default
 unfolding heading
-returns-in-default c = search rules
+returns-in_default c = search rules
