@@ -1,5 +1,5 @@
 -- A request that was asked and answered keeps the promise of its call.
-use Rattle.std.proofs.Common.{◌≡◌, ℕ, ◌<◌, ◌≤◌, min, Bool, List, [], ◌∷◌, ◌++◌, length, take, drop, sym, refl, ap, ◌∙◌, subst, ⊎_elim, arith}
+use Rattle.std.proofs.Common.{◌≡◌, ℕ, ◌<◌, ◌≤◌, min, Bool, List, ◌++◌, length, take, drop, sym, refl, ap, ◌∙◌, subst, ⊎_elim, arith}
 use Rattle.std.proofs.lemmas.List.{take_all, drop_all}
 use Rattle.std.proofs.lemmas.Bool.{cases_lt}
 use Rattle.kinds.specs.declared.class.Class.{Class}
@@ -9,7 +9,7 @@ use Rattle.station_with_books.specs.declared.request.Request.{Request}
 use Rattle.station_with_books.specs.declared.request.Request.TheVariants.{Show}
 use Rattle.station_with_books.specs.declared.request.Answer.{Answer}
 use Rattle.station_with_books.specs.declared.request.Answer.TheVariants.{Shown, NotShown}
-use Rattle.station_with_books.specs.Law.{Call, show, Reply, shown, unshown}
+use Rattle.station_with_books.specs.Law.{show, Reply, shown, unshown}
 use Rattle.station_with_books.specs.Stand.{Keeps}
 use Rattle.station_with_books.specs.Served.{call_of, answer_of, out_after, Asked}
 

@@ -1,5 +1,5 @@
 -- What load and show do keeps the law.
-use Rattle.std.proofs.Common.{◌≡◌, ℕ, ◌<◌, ◌≤◌, Bool, true, false, cond, leb, List, [], ◌∷◌, ◌++◌, length, drop, Some, None, Ok, Err, Option, Result, sym, refl, ap, ◌∙◌, subst, arith}
+use Rattle.std.proofs.Common.{◌≡◌, ℕ, ◌<◌, ◌≤◌, Bool, true, false, cond, leb, List, ◌∷◌, ◌++◌, length, drop, Some, None, Ok, Err, Option, Result, sym, refl, ap, ◌∙◌, subst, arith}
 use Rattle.std.proofs.lemmas.Bool.{leb-true}
 use Rattle.kinds.specs.declared.class.Class.{Class}
 use Rattle.grammar.specs.declared.book.Book.{Book}
@@ -7,7 +7,6 @@ use Rattle.grammar.specs.declared.classes.Classes.{Classes}
 use Rattle.grammar.specs.declared.table.Table.{Table}
 use Rattle.grammar.specs.declared.roots.Roots.{Roots}
 use Rattle.grammar.specs.Expr.{Grammar}
-use Rattle.grammar.specs.Spelling.{spelling}
 use Rattle.grammar.specs.Allowed.{rules_at, sizes, Allowed}
 use Rattle.grammar.specs.Tables.{listed, laid, rooted}
 use Rattle.grammar.specs.Layout.{Lays}
@@ -16,7 +15,6 @@ use Rattle.books.specs.declared.fault.BookFault.{BookFault}
 use Rattle.books.specs.Verdict.{Refuses}
 use Rattle.station_with_books.specs.declared.answers.Counts.{Counts}
 use Rattle.station_with_books.specs.declared.answers.ShowRefusal.{ShowRefusal}
-use Rattle.station_with_books.specs.declared.answers.ShowRefusal.TheVariants.{NoBook, TooShort}
 use Rattle.station_with_books.specs.declared.state.Station.{Station}
 use Rattle.station_with_books.specs.Law.{load, show, Log, in_force, counts_of, Due, accepted, refused, no_book, too_short, written}
 use Rattle.station_with_books.specs.Stand.{KeepsBook, Stands, Keeps, load_reply, show_reply}
@@ -25,9 +23,9 @@ use Rattle.station_with_books.specs.Calls.{Loads, Shows}
 -- the counts of the tables are those of the grammar
 pub counted : (C : Classes) (T : Table) (R : Roots) (len : ℕ) (g : Grammar) → Lays C T R len g → (c r e : ℕ) → c ≡ length (listed C) → r ≡ length (rooted R) → e ≡ length (laid T) → ◌≡◌ {A = Counts} (record { classes = c; rules = r; expressions = e }) (counts_of g)
 counted C T R len g l c r e p q s =
-    let cs : c ≡ length g.classes = p ∙ ap length l.classes-are in
-    let rs : r ≡ length g.rules = q ∙ ap length l.roots-are ∙ starts_length 0 g.rules in
-    let es : e ≡ sizes g.rules = s ∙ ap length l.nodes-are ∙ flats_length 0 (rules_at g) g.rules in
+    let cs : c ≡ length g.classes = p ∙ ap length l.classes_are in
+    let rs : r ≡ length g.rules = q ∙ ap length l.roots_are ∙ starts_length 0 g.rules in
+    let es : e ≡ sizes g.rules = s ∙ ap length l.nodes_are ∙ flats_length 0 (rules_at g) g.rules in
     ap (λ z. record { classes = z; rules = r; expressions = e }) cs
     ∙ ap (λ z. record { classes = length g.classes; rules = z; expressions = e }) rs
     ∙ ap (λ z. record { classes = length g.classes; rules = length g.rules; expressions = z }) es

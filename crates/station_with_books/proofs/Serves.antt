@@ -1,11 +1,11 @@
 -- One more request served is one more entry of the log.
-use Rattle.std.proofs.Common.{◌≡◌, ℕ, ◌+◌, ◌<◌, Bool, List, [], ◌∷◌, ◌++◌, length, get_or, take, drop, set, sym, refl, ap, ◌∙◌, subst, arith, drop-set-lt}
+use Rattle.std.proofs.Common.{◌≡◌, ℕ, ◌+◌, ◌<◌, Bool, List, [], ◌∷◌, ◌++◌, length, get_or, take, drop, set, sym, ap, ◌∙◌, subst, arith, drop-set-lt}
 use Rattle.std.proofs.lemmas.List.{take_more, take_more_set, drop_more}
 use Rattle.kinds.specs.declared.class.Class.{Class}
 use Rattle.station_with_books.specs.declared.state.Station.{Station}
 use Rattle.station_with_books.specs.declared.request.Request.{Request}
 use Rattle.station_with_books.specs.declared.request.Answer.{Answer}
-use Rattle.station_with_books.specs.Law.{Log, Lawful, none, more}
+use Rattle.station_with_books.specs.Law.{Log, none, more}
 use Rattle.station_with_books.specs.Stand.{Stands}
 use Rattle.station_with_books.specs.Served.{answer_of, Asked, Serves, Served}
 use Rattle.station_with_books.specs.Served as served

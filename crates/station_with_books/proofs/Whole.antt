@@ -8,7 +8,6 @@ use Rattle.grammar.specs.Allowed.{Allowed}
 use Rattle.books.specs.declared.fault.BookFault.{BookFault}
 use Rattle.books.specs.Verdict.{Accepts, Refuses}
 use Rattle.books.proofs.Verdicts.{accepted_as_spelled, one_verdict}
-use Rattle.station_with_books.specs.declared.answers.Counts.{Counts}
 use Rattle.station_with_books.specs.declared.answers.ShowRefusal.TheVariants.{NoBook, TooShort}
 use Rattle.station_with_books.specs.Law.{Call, load, show, bill, settle, Reply, loaded, faulted, shown, unshown, total, Log, Effect, nothing, puts, settles, effect, charge, owed_after, force_after, owed, in_force, counts_of, Due, accepted, refused, no_book, too_short, written, billed, settled, Lawful, none, more}
 use Rattle.station_with_books.specs.Whole.{charges, asked, Unsettled, Fresh, at_first, just_settled, Unloaded, Law}

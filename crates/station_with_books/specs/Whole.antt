@@ -2,7 +2,7 @@
 use Rattle.std.specs.Prelude.{◌≡◌, ℕ, ◌+◌, Bool, List, [], ◌∷◌, ◌++◌, length, drop, ◌≢◌}
 use Rattle.kinds.specs.declared.class.Class.{Class}
 use Rattle.station_with_books.specs.declared.answers.Counts.{Counts}
-use Rattle.station_with_books.specs.Law.{Call, load, show, Reply, loaded, shown, total, Entry, Log, Effect, puts, settles, effect, charge, Due, Lawful}
+use Rattle.station_with_books.specs.Law.{Call, load, show, Reply, loaded, shown, total, Entry, Log, puts, settles, effect, charge, Due, Lawful}
 
 -- The charges of a part of a log, in sum.
 abbrev pub charges : {S : Type 0} → Log S → ℕ

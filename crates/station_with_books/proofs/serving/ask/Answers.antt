@@ -1,5 +1,5 @@
-use Rattle.std.proofs.Common.{◌≡◌, sym, refl, ap, ◌∙◌, subst, rules}
-use Rattle.station_with_books.specs.Law.{loaded, faulted, shown, unshown, total}
+use Rattle.std.proofs.Common.{refl}
+use Rattle.station_with_books.specs.Law.{loaded, faulted, total}
 use Rattle.station_with_books.proofs.Asks.{asked_as, asked_shown, asked_unshown}
 use Rattle.station_with_books.proofs.serving.ask.Goals as goal
 

@@ -1,4 +1,4 @@
-use Rattle.std.proofs.Common.{◌≡◌, [], take, drop, sym, refl, ap, ◌∙◌, subst, arith, rules}
+use Rattle.std.proofs.Common.{◌≡◌, [], take, drop, sym, refl, subst, arith}
 use Rattle.station_with_books.specs.Stand.{Stands}
 use Rattle.station_with_books.specs.Served.{Served}
 use Rattle.station_with_books.proofs.Serves.{serving_none, serving_more, untouched_more}

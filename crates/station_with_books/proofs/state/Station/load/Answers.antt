@@ -1,4 +1,4 @@
-use Rattle.std.proofs.Common.{◌≡◌, Ok, sym, refl, ap, ◌∙◌, rules}
+use Rattle.std.proofs.Common.{Ok, refl}
 use Rattle.std.proofs.lemmas.Result.{err_from_is_err_and}
 use Rattle.station_with_books.specs.Calls.{Loads, Took}
 use Rattle.station_with_books.proofs.Promises.{counted, loads_keep}

@@ -1,4 +1,4 @@
-use Rattle.std.proofs.Common.{refl, rules}
+use Rattle.std.proofs.Common.{refl}
 use Rattle.station_with_books.proofs.Whole.{the_law}
 use Rattle.station_with_books.proofs.Links.{linked_lawful}
 use Rattle.station_with_books.proofs.state.Station.new.Goals as goal

@@ -1,4 +1,4 @@
-use Rattle.std.proofs.Common.{◌≡◌, ◌≤◌, Ok, Err, sym, refl, ap, ◌∙◌, subst, arith, rules}
+use Rattle.std.proofs.Common.{Ok, Err, sym, refl, subst, arith}
 use Rattle.station_with_books.specs.declared.answers.ShowRefusal.TheVariants.{NoBook, TooShort}
 use Rattle.station_with_books.specs.Calls.{Shows}
 use Rattle.station_with_books.proofs.Promises.{fitted, shows_keep}
