@@ -1,5 +1,5 @@
 -- What a station answers to a load and then a show.
-use Rattle.std.proofs.Common.{◌≡◌, ℕ, suc, ◌+◌, ◌<◌, ◌≤◌, min, Bool, List, [], ◌∷◌, ◌++◌, length, get_or, take, drop, Some, None, Option, sym, refl, ap, ◌∙◌, subst, append_assoc, arith, length-append, length-take, take_at}
+use Rattle.std.proofs.Common.{◌≡◌, ℕ, ◌<◌, ◌≤◌, Bool, List, [], ◌∷◌, ◌++◌, length, get_or, take, drop, Some, None, Option, sym, refl, ap, ◌∙◌, subst, append_assoc, arith, length-append, take_at}
 use Rattle.kinds.specs.declared.class.Class.{Class}
 use Rattle.grammar.specs.Expr.{Grammar}
 use Rattle.grammar.specs.Spelling.{spelling}
@@ -8,10 +8,10 @@ use Rattle.books.specs.declared.fault.BookFault.{BookFault}
 use Rattle.books.specs.Verdict.{Refuses}
 use Rattle.station_with_books.specs.declared.answers.Counts.{Counts}
 use Rattle.station_with_books.specs.declared.request.Request.{Request}
-use Rattle.station_with_books.specs.declared.request.Request.TheVariants.{Load, Show}
+use Rattle.station_with_books.specs.declared.request.Request.TheVariants.{Show}
 use Rattle.station_with_books.specs.declared.request.Answer.{Answer}
 use Rattle.station_with_books.specs.declared.request.Answer.TheVariants.{Loaded, Refused, Shown}
-use Rattle.station_with_books.specs.Law.{Call, load, show, Reply, loaded, faulted, shown, Log, counts_of, Due, accepted, refused, no_book, too_short, written, Lawful, none, more}
+use Rattle.station_with_books.specs.Law.{Call, load, show, Reply, loaded, Log, counts_of, Due, accepted, refused, no_book, too_short, written, Lawful, more}
 use Rattle.station_with_books.specs.Served.{call_of, answer_of, out_after, Serves, Served}
 use Rattle.station_with_books.specs.Served as served
 

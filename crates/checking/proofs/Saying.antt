@@ -1,5 +1,5 @@
 -- What is said after each outcome of a load and a show.
-use Rattle.std.proofs.Common.{◌≡◌, ℕ, ◌≤◌, min, List, [], ◌∷◌, ◌++◌, length, take, sym, refl, ap, ◌∙◌, subst, arith, take_all}
+use Rattle.std.proofs.Common.{◌≡◌, ℕ, ◌≤◌, List, [], ◌++◌, length, take, sym, refl, ap, ◌∙◌, subst, arith, take_all}
 use lib.Seq.{take-append-le}
 use Rattle.kinds.specs.Classes.{byte_lawful}
 use Rattle.books.specs.declared.fault.BookFault.{BookFault}

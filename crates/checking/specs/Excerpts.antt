@@ -1,5 +1,5 @@
 -- The part of a line that is shown around a place.
-use Rattle.std.specs.Prelude.{ℕ, ◌+◌, ◌-◌, min, max, Bool, nat_lt}
+use Rattle.std.specs.Prelude.{ℕ, ◌+◌, ◌-◌, min, max, nat_lt}
 use Rattle.checking.specs.declared.line.Line.{Line}
 use Rattle.checking.specs.declared.excerpt.Excerpt.{Excerpt}
 

@@ -12,7 +12,7 @@ use std::alloc::{AllocError, Global};
 pub fn put_acceptance(text: &mut Vec<u8>, counts: Counts, book: &[u8]) -> Result<(), AllocError>
     ensures { OnOk result (text.new.items ≡ text.old.items ++ acceptance counts book.now) }
 {
-    let head = acceptance_head(text.allocator(), counts)?;
+    let head = acceptance_head(*text.allocator(), counts)?;
     text.extend_from_slice(head.as_bytes())?;
     text.extend_from_slice(book)?;
     Ok(())
@@ -23,7 +23,7 @@ pub fn put_acceptance(text: &mut Vec<u8>, counts: Counts, book: &[u8]) -> Result
 pub fn put_refusal(text: &mut Vec<u8>, book: &[u8], fault: &BookFault) -> Result<(), AllocError>
     ensures { OnOk result ((said : List ℕ) × Refusal book.now fault.now said × (text.new.items ≡ text.old.items ++ said)) }
 {
-    let head = refusal_head(text.allocator(), fault)?;
+    let head = refusal_head(*text.allocator(), fault)?;
     text.extend_from_slice(head.as_bytes())?;
     text.extend_from_slice(meaning(fault).as_bytes())?;
     text.extend_from_slice(b"\n")?;

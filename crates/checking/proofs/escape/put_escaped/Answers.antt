@@ -1,4 +1,4 @@
-use Rattle.std.proofs.Common.{◌≡◌, ◌++◌, get_or, take, vec_items, ap, ◌∙◌, append_assoc, append-nil, arith, take_all}
+use Rattle.std.proofs.Common.{◌++◌, get_or, take, vec_items, ap, ◌∙◌, append_assoc, append-nil, arith, take_all}
 use Rattle.checking.specs.Escapes.{escape_of, escapes}
 use Rattle.checking.proofs.Escaping.{escapes_more}
 use Rattle.checking.proofs.escape.put_escaped.Goals as goal

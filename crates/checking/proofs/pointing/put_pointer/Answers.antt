@@ -2,7 +2,7 @@ use Rattle.std.proofs.Common.{◌≡◌, ℕ, min, List, [], ◌∷◌, ◌++◌
 use Rattle.checking.specs.declared.line.Line.{Line}
 use Rattle.checking.specs.declared.excerpt.Excerpt.{Excerpt}
 use Rattle.checking.specs.Excerpts.{excerpt_of}
-use Rattle.checking.specs.Lines.{Starts, Ends, Around}
+use Rattle.checking.specs.Lines.{Around}
 use Rattle.checking.specs.Pointing.{before, after, pointer, Points}
 use Rattle.checking.proofs.Joining.{five_pieces}
 use Rattle.checking.proofs.pointing.put_pointer.Goals as goal
