@@ -10,11 +10,12 @@ use Rattle.grammar.specs.Allowed.{rules_at}
 use Rattle.grammar.specs.Tables.{blank, laid, listed}
 use Rattle.grammar.specs.Layout.{operator_of}
 use Rattle.grammar.specs.Held.{Holds}
+use Rattle.grammar.proofs.Widths.{starts_length}
 use Rattle.analyses.specs.Nulls.{nulls, Sound, MarksRight}
 use Rattle.analyses.specs.Stands.{Stands}
 use Rattle.analyses.specs.Rounds.{flag_of, Flagged, unmarked, Round}
 use Rattle.analyses.proofs.Nulls.{unmarked_set, nulls_sound, closed_below, marks_right}
-use Rattle.analyses.proofs.Stands.{stands_rules, starts_length}
+use Rattle.analyses.proofs.Stands.{stands_rules}
 
 module _ (ns : List Node) (marks flags : List Bool) (i : ℕ) (later : Flagged (i + 1) ns marks flags) where
   -- an operand's flag, and the flag of the operand after it
@@ -79,7 +80,7 @@ module _ (k : ℕ) (roots : List ℕ) (flags before after : List Bool) (changed 
         (cases_eq n k);
     fewer = λ _. let u = unmarked_set after k l h in
         ⊎_elim (λ (c : changed ≡ true). omega (arith, u, b.fewer c)) (λ (c : changed ≡ false). omega (arith, u, ap unmarked (b.still c).0)) (cases_Bool changed);
-    still = λ c. absurd (false≢true (sym c));
+    still = λ c. cc;
   }
 
   -- what is so marked, under other names

@@ -14,12 +14,13 @@ use Rattle.grammar.specs.Allowed.{Placed, placed, past, parts, rule_parts, rules
 use Rattle.grammar.specs.Tables.{laid, listed}
 use Rattle.grammar.specs.Layout.{root, flat, flats}
 use Rattle.grammar.specs.Held.{Holds}
+use Rattle.grammar.proofs.Widths.{flat_length, starts_length}
 use Rattle.analyses.specs.Stands.{Stands}
 use Rattle.analyses.specs.Nulls.{nulls, MarksRight}
 use Rattle.analyses.specs.Rounds.{Flagged}
 use Rattle.analyses.specs.Search.{first_from, lacks, missing_at, repeats, loop_at}
 use Rattle.analyses.proofs.Nulls.{nulls_sound, nulls_full, right_sound, right_closed}
-use Rattle.analyses.proofs.Stands.{stands_flat, starts_length, flat_length}
+use Rattle.analyses.proofs.Stands.{stands_flat}
 use Rattle.analyses.proofs.Decided.{found_here, found_later}
 
 -- The test of a node tells of the expression that stands there.
@@ -88,14 +89,14 @@ found_in_book book g h test P tells =
     subst (λ ns. Found P (expressions g) (first_from test 0 ns)) (sym h.nodes_are) (found_flats (laid book.table) test P tells [] 0 (rules_at g) g.rules refl h.nodes_are)
 
 tells_missing : (g : Grammar) (ns : List Node) → Tells ns (missing_at (length g.classes) (length g.rules)) (Missing g)
-tells_missing g ns i at empty s = (λ q. absurd (false≢true q), λ q m. m)
-tells_missing g ns i at any s = (λ q. absurd (false≢true q), λ q m. m)
+tells_missing g ns i at empty s = (λ q. cc, λ q m. m)
+tells_missing g ns i at any s = (λ q. cc, λ q m. m)
 tells_missing g ns i at (term n) s = (leb-true (length g.classes) n, λ q m. omega (arith, leb-false (length g.classes) n q))
 tells_missing g ns i at (call n) s = (leb-true (length g.rules) n, λ q m. omega (arith, leb-false (length g.rules) n q))
-tells_missing g ns i at (seq a b) s = (λ q. absurd (false≢true q), λ q m. m)
-tells_missing g ns i at (alt a b) s = (λ q. absurd (false≢true q), λ q m. m)
-tells_missing g ns i at (star a) s = (λ q. absurd (false≢true q), λ q m. m)
-tells_missing g ns i at (not a) s = (λ q. absurd (false≢true q), λ q m. m)
+tells_missing g ns i at (seq a b) s = (λ q. cc, λ q m. m)
+tells_missing g ns i at (alt a b) s = (λ q. cc, λ q m. m)
+tells_missing g ns i at (star a) s = (λ q. cc, λ q m. m)
+tells_missing g ns i at (not a) s = (λ q. cc, λ q m. m)
 
 -- A search for a node by its operator alone.
 first_node : (test : Node → Bool) (i : ℕ) (ns : List Node) → option_map (λ (n : Node). n.place) (find test ns) ≡ first_from (λ _. test) i ns
@@ -117,18 +118,18 @@ first_missing_lem book classes rules r c k e g h =
 
 -- With the right flags, the test for an endless `star` tells of one.
 tells_loop : (g : Grammar) (ns : List Node) (marks flags : List Bool) → MarksRight g.rules marks → Flagged 0 ns marks flags → Tells ns (loop_at flags) (Loop g)
-tells_loop g ns marks flags right flagged i at empty s = (λ q. absurd (false≢true q), λ q m. m)
-tells_loop g ns marks flags right flagged i at any s = (λ q. absurd (false≢true q), λ q m. m)
-tells_loop g ns marks flags right flagged i at (term n) s = (λ q. absurd (false≢true q), λ q m. m)
-tells_loop g ns marks flags right flagged i at (call n) s = (λ q. absurd (false≢true q), λ q m. m)
-tells_loop g ns marks flags right flagged i at (seq a b) s = (λ q. absurd (false≢true q), λ q m. m)
-tells_loop g ns marks flags right flagged i at (alt a b) s = (λ q. absurd (false≢true q), λ q m. m)
+tells_loop g ns marks flags right flagged i at empty s = (λ q. cc, λ q m. m)
+tells_loop g ns marks flags right flagged i at any s = (λ q. cc, λ q m. m)
+tells_loop g ns marks flags right flagged i at (term n) s = (λ q. cc, λ q m. m)
+tells_loop g ns marks flags right flagged i at (call n) s = (λ q. cc, λ q m. m)
+tells_loop g ns marks flags right flagged i at (seq a b) s = (λ q. cc, λ q m. m)
+tells_loop g ns marks flags right flagged i at (alt a b) s = (λ q. cc, λ q m. m)
 tells_loop g ns marks flags right flagged i at (star a) s =
     let f : get_or flags (i + 1) false ≡ nulls marks a = flagged (i + 1) a (omega arith) s.1 in (
       λ q. nulls_sound g.rules marks (right_sound g.rules marks right) a (sym f ∙ q),
       λ q m. both_ways (nulls marks a) (sym f ∙ q) (nulls_full g.rules marks (right_closed g.rules marks right) m),
     )
-tells_loop g ns marks flags right flagged i at (not a) s = (λ q. absurd (false≢true q), λ q m. m)
+tells_loop g ns marks flags right flagged i at (not a) s = (λ q. cc, λ q m. m)
 
 -- Past the flags there is no `star` of a nullable expression.
 no_star : (flags : List Bool) (i : ℕ) (ns : List Node) → ((k : ℕ) → i < k → get_or flags k false ≡ false) → first_from (loop_at flags) i ns ≡ None'

@@ -63,7 +63,7 @@ fn flag_node(operator: Operator, nodes: &[Node], marks: &[bool], flags: &[bool],
     ensures { result ≡ flag_of nodes.now marks.now flags.now i operator }
 {
     let first = i + 1;
-    let second = nodes.get(first).map_or(0, |node| node.end);
+    let second = nodes.get(first).map_or(0, |next| next.end);
     match operator {
         Operator::Empty | Operator::Star | Operator::Not => true,
         Operator::Any | Operator::Term(_) => false,
