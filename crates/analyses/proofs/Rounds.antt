@@ -90,7 +90,7 @@ module _ (k : ℕ) (roots : List ℕ) (flags before after : List Bool) (changed 
 -- The rules of a grammar that a book holds stand where its roots say.
 roots_stand : (book : Book) (g : Grammar) → Holds book g → (n : ℕ) → n < length g.rules → Stands (laid book.table) (get_or (listed book.roots) n 0) (body g.rules n)
 roots_stand book g h n l =
-    subst (λ rs. Stands (laid book.table) (get_or rs n 0) (body g.rules n)) (sym h.roots_are) (stands_rules (laid book.table) [] 0 (rules_at g) g.rules refl h.nodes_are n l)
+    rw h.roots_are (stands_rules (laid book.table) [] 0 (rules_at g) g.rules refl h.nodes_are n l)
 
 pub roots_count : (book : Book) (g : Grammar) → Holds book g → length (listed book.roots) ≡ length g.rules
 roots_count book g h = ap length h.roots_are ∙ starts_length 0 g.rules
@@ -112,4 +112,4 @@ module _ (book : Book) (flags before after : List Bool) (changed : Bool) (flagge
       let s = b.still c in
       let closed : (n : ℕ) → n < length g.rules → nulls before (body g.rules n) ≡ true → get_or before n false ≡ true =
       λ n l q. s.1 n (omega (arith, roots_count book g holds)) (flagged (get_or (listed book.roots) n 0) (body g.rules n) (omega arith) (roots_stand book g holds n l) ∙ q) in
-      subst (MarksRight g.rules) (sym s.0) (marks_right g.rules before sound (closed_below g.rules before closed))
+      rw s.0 (marks_right g.rules before sound (closed_below g.rules before closed))

@@ -86,7 +86,7 @@ module _ (ns : List Node) (test : ℕ → Node → Bool) (P : Expr → Type 0) (
 -- A test that tells of what stands in the book's table finds the first one.
 pub found_in_book : (book : Book) (g : Grammar) → Holds book g → (test : ℕ → Node → Bool) (P : Expr → Type 0) → Tells (laid book.table) test P → Found P (expressions g) (first_from test 0 (laid book.table))
 found_in_book book g h test P tells =
-    subst (λ ns. Found P (expressions g) (first_from test 0 ns)) (sym h.nodes_are) (found_flats (laid book.table) test P tells [] 0 (rules_at g) g.rules refl h.nodes_are)
+    rw h.nodes_are (found_flats (laid book.table) test P tells [] 0 (rules_at g) g.rules refl h.nodes_are)
 
 tells_missing : (g : Grammar) (ns : List Node) → Tells ns (missing_at (length g.classes) (length g.rules)) (Missing g)
 tells_missing g ns i at empty s = (λ q. cc, λ q m. m)
@@ -111,10 +111,8 @@ first_node test i (n ∷ ns) = go (test n) (first_node test (i + 1) ns)
 pub first_missing_lem : (book : Book) (classes rules : ℕ) (r : Option ℕ) → classes ≡ length (listed book.classes) → rules ≡ length (listed book.roots) → r ≡ option_map (λ (n : Node). n.place) (find (λ (n : Node). lacks classes rules n.operator) (laid book.table)) → (g : Grammar) → Holds book g → Found (Missing g) (expressions g) r
 first_missing_lem book classes rules r c k e g h =
     let ns = laid book.table in
-    let c' : length g.classes ≡ classes = sym (c ∙ ap length h.classes_are) in
-    let k' : length g.rules ≡ rules = sym (k ∙ ap length h.roots_are ∙ starts_length 0 g.rules) in
-    let tells = subst (λ n. Tells ns (missing_at classes n) (Missing g)) k' (subst (λ n. Tells ns (missing_at n (length g.rules)) (Missing g)) c' (tells_missing g ns)) in
-    rw (e, first_node (λ (n : Node). lacks classes rules n.operator) 0 ns) (found_in_book book g h (missing_at classes rules) (Missing g) tells)
+    let test = missing_at (length g.classes) (length g.rules) in
+    rw (e, c ∙ ap length h.classes_are, k ∙ ap length h.roots_are ∙ starts_length 0 g.rules, first_node (test 0) 0 ns) (found_in_book book g h test (Missing g) (tells_missing g ns))
 
 -- With the right flags, the test for an endless `star` tells of one.
 tells_loop : (g : Grammar) (ns : List Node) (marks flags : List Bool) → MarksRight g.rules marks → Flagged 0 ns marks flags → Tells ns (loop_at flags) (Loop g)
