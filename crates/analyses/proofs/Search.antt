@@ -5,7 +5,7 @@ use Rattle.std.proofs.lemmas.Grind.{get_or_after_one}
 use Rattle.std.proofs.Math.Bool.{and-false}
 use Rattle.std.specs.List.{find, zip}
 use Rattle.std.specs.Option.{option_map}
-use Rattle.std.proofs.lemmas.Bool.{leb-true, leb-false, false≢true, both_ways}
+use Rattle.std.proofs.lemmas.Bool.{leb-true, leb-false, both_ways}
 use Rattle.grammar.specs.declared.node.Node.{Node}
 use Rattle.grammar.specs.declared.book.Book.{Book}
 use Rattle.grammar.specs.Expr.{Expr, empty, any, term, call, seq, alt, star, not, size, Grammar}

@@ -1,5 +1,6 @@
 -- Rules that are laid out stand in the table.
-use Rattle.std.proofs.Common.{◌≡◌, ℕ, zero, suc, ◌+◌, ◌<◌, List, [], ◌∷◌, ◌++◌, length, get_or, codes, sym, refl, ap, ◌∙◌, arith}
+use Rattle.std.proofs.Common.{◌≡◌, ℕ, zero, suc, ◌+◌, ◌<◌, List, [], ◌∷◌, ◌++◌, length, get_or, codes, sym, ap, ◌∙◌, arith}
+use Rattle.std.proofs.lemmas.Grind.{common_steps}
 use Rattle.std.proofs.lemmas.List.{append_assoc, get_or_at, length-append, length_push}
 use Rattle.grammar.specs.declared.node.Node.{Node}
 use Rattle.grammar.specs.Expr.{Expr, empty, any, term, call, seq, alt, star, not, size, body}
@@ -12,13 +13,10 @@ use Rattle.analyses.specs.Stands.{Heads, Stands}
 
 module _ (ns before after : List Node) (i at : ℕ) (e : Expr) (l : length before ≡ i) (h : ns ≡ before ++ (root i at e ∷ after)) where
   heads : Heads ns i e
-  heads =
-      let n = ap length h ∙ length-append before (root i at e ∷ after) in
-      let x : get_or ns i blank ≡ root i at e = ap (λ m. get_or m i blank) h ∙ get_or_at before (root i at e) after blank i l in
-      (omega (arith, n), ap (λ (n : Node). n.operator) x, ap (λ (n : Node). n.end) x)
+  heads = rw h (grind (arith, common_steps, get_or_at before (root i at e) after blank i l))
 
   after_root : ns ≡ (before ++ (root i at e ∷ [])) ++ after
-  after_root = h ∙ sym (append_assoc before (root i at e ∷ []) after)
+  after_root = grind (arith, common_steps)
 
   length_root : length (before ++ (root i at e ∷ [])) ≡ i + 1
   length_root = length_push before (root i at e) ∙ ap (λ n. n + 1) l
