@@ -6,6 +6,8 @@ use Rattle.std.proofs.Math.Bool.{and-false}
 use Rattle.std.specs.List.{find, zip}
 use Rattle.std.specs.Option.{option_map}
 use Rattle.std.proofs.lemmas.Bool.{leb-true, leb-false, both_ways}
+use Rattle.grammar.specs.declared.node.Operator.{Operator}
+use Rattle.grammar.specs.declared.node.Operator.TheVariants.{Empty, Any, Term, Call, Seq, Alt, Star, Not}
 use Rattle.grammar.specs.declared.node.Node.{Node}
 use Rattle.grammar.specs.declared.book.Book.{Book}
 use Rattle.grammar.specs.Expr.{Expr, empty, any, term, call, seq, alt, star, not, size, Grammar}
@@ -18,10 +20,30 @@ use Rattle.grammar.proofs.Widths.{flat_length, starts_length}
 use Rattle.analyses.specs.Stands.{Stands}
 use Rattle.analyses.specs.Nulls.{nulls, MarksRight}
 use Rattle.analyses.specs.Rounds.{Flagged}
-use Rattle.analyses.specs.Search.{first_from, lacks, missing_at, repeats, loop_at}
+use Rattle.analyses.specs.Search.{lacks}
 use Rattle.analyses.proofs.Nulls.{nulls_sound, nulls_full, right_sound, right_closed}
 use Rattle.analyses.proofs.Stands.{stands_flat}
 use Rattle.analyses.proofs.Decided.{found_here, found_later}
+
+-- The place of the first node that passes, the nodes being numbered from i on.
+abbrev first_from : (ℕ → Node → Bool) → ℕ → List Node → Option ℕ
+first_from test i [] = None'
+first_from test i (n ∷ ns) = cond (test i n) (Some n.place) (first_from test (i + 1) ns)
+
+-- The operator is `star`.
+abbrev pub repeats : Operator → Bool
+repeats Empty = false
+repeats Any = false
+repeats (Term n) = false
+repeats (Call n) = false
+repeats Seq = false
+repeats Alt = false
+repeats Star = true
+repeats Not = false
+
+-- A `star` whose operand, the next node, is flagged as nullable.
+abbrev loop_at : List Bool → ℕ → Node → Bool
+loop_at flags i n = repeats n.operator && get_or flags (i + 1) false
 
 -- The test of a node tells of the expression that stands there.
 abbrev pub Tells : List Node → (ℕ → Node → Bool) → (Expr → Type 0) → Type 0
@@ -88,7 +110,7 @@ pub found_in_book : (book : Book) (g : Grammar) → Holds book g → (test : ℕ
 found_in_book book g h test P tells =
     rw h.nodes_are (found_flats (laid book.table) test P tells [] 0 (rules_at g) g.rules refl h.nodes_are)
 
-tells_missing : (g : Grammar) (ns : List Node) → Tells ns (missing_at (length g.classes) (length g.rules)) (Missing g)
+tells_missing : (g : Grammar) (ns : List Node) → Tells ns (λ _ n. lacks (length g.classes) (length g.rules) n.operator) (Missing g)
 tells_missing g ns i at empty s = (λ q. cc, λ q m. m)
 tells_missing g ns i at any s = (λ q. cc, λ q m. m)
 tells_missing g ns i at (term n) s = (leb-true (length g.classes) n, λ q m. omega (arith, leb-false (length g.classes) n q))
@@ -111,8 +133,8 @@ first_node test i (n ∷ ns) = go (test n) (first_node test (i + 1) ns)
 pub first_missing_lem : (book : Book) (classes rules : ℕ) (r : Option ℕ) → classes ≡ length (listed book.classes) → rules ≡ length (listed book.roots) → r ≡ option_map (λ (n : Node). n.place) (find (λ (n : Node). lacks classes rules n.operator) (laid book.table)) → (g : Grammar) → Holds book g → Found (Missing g) (expressions g) r
 first_missing_lem book classes rules r c k e g h =
     let ns = laid book.table in
-    let test = missing_at (length g.classes) (length g.rules) in
-    rw (e, c ∙ ap length h.classes_are, k ∙ ap length h.roots_are ∙ starts_length 0 g.rules, first_node (test 0) 0 ns) (found_in_book book g h test (Missing g) (tells_missing g ns))
+    let test = λ (n : Node). lacks (length g.classes) (length g.rules) n.operator in
+    rw (e, c ∙ ap length h.classes_are, k ∙ ap length h.roots_are ∙ starts_length 0 g.rules, first_node test 0 ns) (found_in_book book g h (λ _. test) (Missing g) (tells_missing g ns))
 
 -- With the right flags, the test for an endless `star` tells of one.
 tells_loop : (g : Grammar) (ns : List Node) (marks flags : List Bool) → MarksRight g.rules marks → Flagged 0 ns marks flags → Tells ns (loop_at flags) (Loop g)

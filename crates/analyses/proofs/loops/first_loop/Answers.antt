@@ -8,9 +8,8 @@ use Rattle.std.specs.List.{find, zip}
 use Rattle.std.specs.Option.{option_map}
 use Rattle.grammar.specs.declared.node.Node.{Node}
 use Rattle.grammar.specs.Tables.{laid}
-use Rattle.analyses.specs.Search.{repeats}
 use Rattle.analyses.proofs.Decided.{loop_found, loop_once}
-use Rattle.analyses.proofs.Search.{first_loop_lem}
+use Rattle.analyses.proofs.Search.{repeats, first_loop_lem}
 use Rattle.analyses.proofs.loops.first_loop.Goals as goal
 
 pub returns-clause-first : goal.returns-clause-first
