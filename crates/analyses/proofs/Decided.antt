@@ -1,9 +1,9 @@
 -- Nullability is decided; so the first of what is searched for is there or there is none, and it is only one.
 use Rattle.std.proofs.Common.{◌≡◌, ℕ, zero, suc, ◌<◌, ◌≤◌, Bool, true, false, ◌⊎◌, List, [], ◌∷◌, ◌++◌, length, get_or, set, replicate, Some, None as None', Option, sym, refl, ap, ◌∙◌, subst, inl, inr, ⊎_elim, arith}
-use Rattle.std.proofs.lemmas.List.{get_or-set_other, length-set, length-replicate, get_or-replicate, get_or_past}
-use Rattle.std.proofs.lemmas.Bool.{false≢true, cases_lt, cases_eq, cases_Bool, both_ways}
+use Rattle.std.proofs.lemmas.List.{length-set, length-replicate, get_or-replicate, get_or_past}
+use Rattle.std.proofs.lemmas.Grind.{common_steps}
+use Rattle.std.proofs.lemmas.Bool.{cases_lt, cases_eq, cases_Bool, both_ways}
 use Rattle.grammar.specs.Expr.{Expr, empty, any, term, call, seq, alt, star, not, body, Grammar}
-use Rattle.grammar.specs.Nullable.{Nullable}
 use Rattle.grammar.specs.Allowed.{Placed, placed, expressions, Missing, Loop, None, Earliest, Found}
 use Rattle.analyses.specs.Nulls.{nulls, Sound, Closed, MarksRight}
 use Rattle.analyses.specs.Decided.{NullableDecided, MissingFound, LoopFound, FoundOnce, MissingOnce, LoopOnce}
@@ -23,24 +23,15 @@ module _ (rules : List Expr) where
   scan marks zero = inr (λ n l q. absurd (omega arith))
   scan marks (suc k) = go (scan marks k) (cases_Bool (nulls marks (body rules k))) (cases_Bool (get_or marks k false))
     where
-      upto : ((n : ℕ) → n < k → nulls marks (body rules n) ≡ true → get_or marks n false ≡ true) → (nulls marks (body rules k) ≡ true → get_or marks k false ≡ true) → (n : ℕ) → n < suc k → nulls marks (body rules n) ≡ true → get_or marks n false ≡ true
-      upto g h n l q =
-          ⊎_elim (λ (e : n ≡ k). subst (λ m. get_or marks m false ≡ true) (sym e) (h (subst (λ m. nulls marks (body rules m) ≡ true) e q)))
-          (λ (e : n ≡ k → ⊥). g n (omega arith) q)
-          (cases_eq n k)
-
       go : New rules marks k ⊎ ((n : ℕ) → n < k → nulls marks (body rules n) ≡ true → get_or marks n false ≡ true) → (nulls marks (body rules k) ≡ true) ⊎ (nulls marks (body rules k) ≡ false) → (get_or marks k false ≡ true) ⊎ (get_or marks k false ≡ false) → New rules marks (suc k) ⊎ ((n : ℕ) → n < suc k → nulls marks (body rules n) ≡ true → get_or marks n false ≡ true)
       go (inl s) q m = let l = s.below in inl (record { number = s.number; below = omega arith; by_marks = s.by_marks; no_mark = s.no_mark })
-      go (inr g) (inl q) (inl m) = inr (upto g (λ _. m))
+      go (inr g) (inl q) (inl m) = inr (λ n l q. grind (arith, cases_eq n k, g n))
       go (inr g) (inl q) (inr m) = inl (record { number = k; below = omega arith; by_marks = q; no_mark = m })
-      go (inr g) (inr q) m = inr (upto g (λ e. absurd (both_ways (nulls marks (body rules k)) q e)))
+      go (inr g) (inr q) m = inr (λ n l e. grind (arith, cases_eq n k, g n))
 
   -- a mark on a new rule is right
   mark_sound : (marks : List Bool) → Sound rules marks → (s : New rules marks (length rules)) → Sound rules (set marks s.number true)
-  mark_sound marks h s n q =
-      ⊎_elim (λ (e : n ≡ s.number). subst (λ m. Nullable rules (body rules m)) (sym e) (nulls_sound rules marks h (body rules s.number) s.by_marks))
-      (λ (e : n ≡ s.number → ⊥). h n (sym (get_or-set_other marks s.number n true false e) ∙ q))
-      (cases_eq n s.number)
+  mark_sound marks h s n q = grind (arith, common_steps, cases_eq n s.number, h n, nulls_sound rules marks h (body rules s.number) s.by_marks)
 
   -- marks are added until no rule is new
   close : (left : ℕ) (marks : List Bool) → length marks ≡ length rules → unmarked marks ≤ left → Sound rules marks → (all : List Bool) × MarksRight rules all
@@ -55,10 +46,7 @@ module _ (rules : List Expr) where
 
 -- no mark at first
 pub unmarked_sound : (rules : List Expr) (n : ℕ) → Sound rules (replicate n false)
-unmarked_sound rules n k q =
-    ⊎_elim (λ (l : k < n). absurd (false≢true (sym (get_or-replicate n k false false l) ∙ q)))
-    (λ (l : n ≤ k). absurd (false≢true (sym (get_or_past (replicate n false) k false (omega (arith, length-replicate n false))) ∙ q)))
-    (cases_lt k n)
+unmarked_sound rules n k q = grind (arith, common_steps, cases_lt k n, get_or-replicate n k false false, get_or_past (replicate n false) k false, length-replicate n false)
 
 all_marks : (rules : List Expr) → (all : List Bool) × MarksRight rules all
 all_marks rules = close rules (unmarked (replicate (length rules) false)) (replicate (length rules) false) (length-replicate (length rules) false) (omega arith) (unmarked_sound rules (length rules))
@@ -117,8 +105,8 @@ module _ (P : Expr → Type 0) where
   none_of_none at f = go f.before f.split
     where
       go : (before : List Placed) → [] ≡ before ++ (placed at f.here ∷ f.after) → ⊥
-      go [] q = let z : ◌≡◌ {A = ℕ} 0 1 = cc in omega arith
-      go (x ∷ xs) q = let z : ◌≡◌ {A = ℕ} 0 1 = cc in omega arith
+      go [] q = cc
+      go (x ∷ xs) q = cc
 
   next : (p : Placed) (ps : List Placed) (at : ℕ) → Earliest P (p ∷ ps) at → Next p ps at
   next p ps at f = go f.before f.split f.not_before

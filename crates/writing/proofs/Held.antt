@@ -11,7 +11,7 @@ use Rattle.grammar.specs.Expr.{Expr, size, nesting, Grammar}
 use Rattle.grammar.specs.Spelling.{spell, spell_class, spell_classes, spell_rules, spelling}
 use Rattle.grammar.specs.Allowed.{past, line_width, Each, rules_at}
 use Rattle.grammar.specs.Layout.{flat, flats, starts}
-use Rattle.grammar.specs.Tables.{laid, listed, no_class, rooted}
+use Rattle.grammar.specs.Tables.{laid, listed}
 use Rattle.writing.specs.Walk.{number_bytes, walked, rule_line, rule_lines, book_lines}
 use Rattle.writing.proofs.Spelled.{walked_spells, size_flat, spell_append}
 
@@ -45,13 +45,13 @@ rules_spelled (e ∷ es) front i at len low =
 
 -- The book's lines, as its tables have them.
 abbrev lines : Book → List ℕ
-lines book = book_lines (listed book.classes) (laid book.table) (rooted book.roots)
+lines book = book_lines (listed book.classes) (laid book.table) (listed book.roots)
 
 -- They are how the grammar is written that the tables hold.
 pub lines_spell : (book : Book) (g : Grammar) → Holds book g → lines book ≡ spelling g
 lines_spell book g holds =
     let nodes = laid book.table in
-    let roots = rooted book.roots in
+    let roots = listed book.roots in
     let rules : rule_lines nodes roots ≡ spell_rules g.rules =
     ap (λ l. rule_lines l roots) holds.nodes_are ∙ ap (rule_lines (flats 0 (rules_at g) g.rules)) holds.roots_are ∙ rules_spelled g.rules [] 0 (rules_at g) refl holds.shallow in
     ap (λ l. spell_classes l [] ++ rule_lines nodes roots) holds.classes_are
@@ -62,13 +62,12 @@ lines_spell book g holds =
 pub lines_count : (book : Book) → length (lines book) ≡ book.length
 lines_count book = ∥∥₁_elim book.known (ℕ_set _ _) (λ h. ap length (lines_spell book h.0 h.1) ∙ sym h.1.length_is)
 
-pub lines_room : (book : Book) → length (spell_classes (listed book.classes) []) + length (rule_lines (laid book.table) (rooted book.roots)) ≡ book.length
-lines_room book = sym (length-append (spell_classes (listed book.classes) []) (rule_lines (laid book.table) (rooted book.roots))) ∙ lines_count book
+pub lines_room : (book : Book) → length (spell_classes (listed book.classes) []) + length (rule_lines (laid book.table) (listed book.roots)) ≡ book.length
+lines_room book = sym (length-append (spell_classes (listed book.classes) []) (rule_lines (laid book.table) (listed book.roots))) ∙ lines_count book
 
 -- The line of a class, and those of the classes past it.
-pub classes_turn : (cs : List Class) (i : ℕ) (c : Class) → c ≡ get_or cs i no_class → i < length cs → spell_classes (drop i cs) [] ≡ spell_class c [] ++ spell_classes (drop (i + 1) cs) []
-classes_turn cs i c here inside =
-    ap (λ l. spell_classes l []) (drop_more cs i no_class inside ∙ ap (λ x. x ∷ drop (i + 1) cs) (sym here)) ∙ class_more c [] (spell_classes (drop (i + 1) cs) [])
+pub classes_turn : (cs : List Class) (i : ℕ) (d : Class) → i < length cs → spell_classes (drop i cs) [] ≡ spell_class (get_or cs i d) [] ++ spell_classes (drop (i + 1) cs) []
+classes_turn cs i d inside = ap (λ l. spell_classes l []) (drop_more cs i d inside) ∙ class_more (get_or cs i d) [] (spell_classes (drop (i + 1) cs) [])
 
 pub classes_past : (cs : List Class) (i : ℕ) → length cs ≤ i → spell_classes (drop i cs) [] ≡ []
 classes_past cs i past = ap (λ l. spell_classes l []) (drop_all i cs past)
@@ -77,9 +76,9 @@ pub class_length : (c : Class) → length (spell_class c []) ≡ length (number_
 class_length c = omega (arith, length-append (decimal c.first) (32 ∷ (decimal c.second ++ (41 ∷ (10 ∷ [])))), length-append (decimal c.second) (41 ∷ (10 ∷ [])))
 
 -- The line of a rule, and those of the rules past it.
-pub rules_turn : (nodes : List Node) (ss : List ℕ) (i s : ℕ) → s ≡ get_or ss i 0 → i < length ss → rule_lines nodes (drop i ss) ≡ rule_line nodes s ++ rule_lines nodes (drop (i + 1) ss)
+pub rules_turn : (nodes : List Node) (ss : List ℕ) (i : ℕ) → i < length ss → rule_lines nodes (drop i ss) ≡ rule_line nodes (get_or ss i 0) ++ rule_lines nodes (drop (i + 1) ss)
 unfolding rule_lines
-rules_turn nodes ss i s here inside = ap (rule_lines nodes) (drop_more ss i 0 inside ∙ ap (λ x. x ∷ drop (i + 1) ss) (sym here))
+rules_turn nodes ss i inside = ap (rule_lines nodes) (drop_more ss i 0 inside)
 
 pub rules_past : (nodes : List Node) (ss : List ℕ) (i : ℕ) → length ss ≤ i → rule_lines nodes (drop i ss) ≡ []
 unfolding rule_lines

@@ -1,6 +1,6 @@
 ghost use Rattle.std.specs.Prelude.{◌+◌, ◌≤◌, [], length, drop};
 ghost use Rattle.grammar.specs.Spelling.{spell_class, spell_classes};
-ghost use Rattle.grammar.specs.Tables.{listed, laid, rooted};
+ghost use Rattle.grammar.specs.Tables.{listed, laid};
 ghost use Rattle.writing.specs.Wrote.{Put};
 ghost use Rattle.writing.specs.Walk.{number_bytes, walked, rule_line, rule_lines};
 
@@ -30,8 +30,8 @@ pub(crate) fn put_classes(classes: &Classes, out: &mut [u8]) -> usize
     ensures { Put (spell_classes (listed classes.now) []) out.old result out.new }
 {
     let mut count = 0;
-    for i in 0..classes.count() {
-        count += put_class(classes.class(i), &mut out[count..]);
+    for class in classes.as_slice() {
+        count += put_class(*class, &mut out[count..]);
     }
     count
 }
@@ -49,12 +49,12 @@ fn put_rule(table: &Table, start: u16, out: &mut [u8]) -> usize
 
 /// Writes the lines of the rules.
 pub(crate) fn put_rules(table: &Table, roots: &Roots, out: &mut [u8]) -> usize
-    requires { length (rule_lines (laid table.now) (rooted roots.now)) ≤ length out.old }
-    ensures { Put (rule_lines (laid table.now) (rooted roots.now)) out.old result out.new }
+    requires { length (rule_lines (laid table.now) (listed roots.now)) ≤ length out.old }
+    ensures { Put (rule_lines (laid table.now) (listed roots.now)) out.old result out.new }
 {
     let mut count = 0;
-    for i in 0..roots.count() {
-        count += put_rule(table, roots.root(i), &mut out[count..]);
+    for root in roots.as_slice() {
+        count += put_rule(table, *root, &mut out[count..]);
     }
     count
 }

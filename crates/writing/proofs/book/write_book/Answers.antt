@@ -1,7 +1,7 @@
 use Rattle.std.proofs.Common.{◌≡◌, ℕ, cond, [], length, Some, None, sym, ap, ◌∙◌, arith, length-drop, length-take, rules}
 use Rattle.std.proofs.lemmas.Bool.{le-leb}
 use Rattle.grammar.specs.Spelling.{spell_classes, spelling}
-use Rattle.grammar.specs.Tables.{laid, listed, rooted}
+use Rattle.grammar.specs.Tables.{laid, listed}
 use Rattle.writing.specs.Walk.{rule_lines}
 use Rattle.writing.proofs.Puts.{put_two, same_put}
 use Rattle.writing.proofs.Held.{lines_spell, lines_count, lines_room}
@@ -27,7 +27,7 @@ returns c =
     let book = c.args.book.now in
     let out = c.args.out.now in
     let room = lines_room book in
-    let put = put_two (spell_classes (listed book.classes) []) (rule_lines (laid book.table) (rooted book.roots)) out _ _ _ _ (omega arith) c.put_classes-count.ensures c.put_rules.ensures in
+    let put = put_two (spell_classes (listed book.classes) []) (rule_lines (laid book.table) (listed book.roots)) out _ _ _ _ (omega arith) c.put_classes-count.ensures c.put_rules.ensures in
     record {
       answer = ap Some (put.0 ∙ lines_count book) ∙ sym (ap (λ b. cond b (Some book.length) None) (le-leb book.length (length out) (omega arith)));
       refused = λ e. let clash : ◌≡◌ {A = ℕ} 0 1 = cc in absurd (omega arith);

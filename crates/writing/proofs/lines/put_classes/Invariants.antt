@@ -4,5 +4,5 @@ use Rattle.grammar.specs.Tables.{listed}
 use Rattle.writing.proofs.Puts.{Partly}
 use Rattle.writing.proofs.lines.put_classes.Given as goal
 
-abbrev pub invariant-loop-i : goal.invariant-loop-i
-invariant-loop-i l = Partly (spell_classes (listed l.classes) []) (spell_classes (drop l.i (listed l.classes)) []) l.initial.out l.count l.out
+abbrev pub invariant-loop-class : goal.invariant-loop-class
+invariant-loop-class l = Partly (spell_classes (listed l.classes) []) (spell_classes (drop l.class-index (listed l.classes)) []) l.initial.out l.count l.out

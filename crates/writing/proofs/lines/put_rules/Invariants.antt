@@ -1,8 +1,8 @@
 use Rattle.std.proofs.Common.{drop}
-use Rattle.grammar.specs.Tables.{laid, rooted}
+use Rattle.grammar.specs.Tables.{laid, listed}
 use Rattle.writing.specs.Walk.{rule_lines}
 use Rattle.writing.proofs.Puts.{Partly}
 use Rattle.writing.proofs.lines.put_rules.Given as goal
 
-abbrev pub invariant-loop-i : goal.invariant-loop-i
-invariant-loop-i l = Partly (rule_lines (laid l.table) (rooted l.roots)) (rule_lines (laid l.table) (drop l.i (rooted l.roots))) l.initial.out l.count l.out
+abbrev pub invariant-loop-root : goal.invariant-loop-root
+invariant-loop-root l = Partly (rule_lines (laid l.table) (listed l.roots)) (rule_lines (laid l.table) (drop l.root-index (listed l.roots))) l.initial.out l.count l.out
