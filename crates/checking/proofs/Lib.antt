@@ -1,4 +1,4 @@
-mod Escaping
+mod Splitting
 mod Joining
 mod Asked
 mod Saying
