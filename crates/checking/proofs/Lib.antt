@@ -1,4 +1,3 @@
 mod Splitting
-mod Joining
 mod Asked
 mod Saying

@@ -2,6 +2,7 @@ ghost use Rattle.checking.specs.Lines.{Starts, Ends, Around};
 ghost use Rattle.std.specs.Prelude.{length};
 
 /// The bytes of one line, without its line feed: from `start` up to `end`.
+// A `Range` would be no plainer: it is an iterator, and not `Copy`.
 #[derive(Clone, Copy, PartialEq, Eq, Debug)]
 pub struct Line {
     pub start: usize,
@@ -35,5 +36,8 @@ fn line_start(bytes: &[u8]) -> usize
 fn line_end(bytes: &[u8]) -> usize
     ensures { Ends bytes.now 0 result }
 {
-    bytes.iter().position(|b| *b == b'\n').unwrap_or(bytes.len())
+    bytes
+        .iter()
+        .position(|b| *b == b'\n')
+        .unwrap_or(bytes.len())
 }

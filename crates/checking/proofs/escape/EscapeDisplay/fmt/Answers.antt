@@ -3,7 +3,7 @@ use Rattle.std.specs.Fmt.{digit_glyph}
 use Rattle.std.proofs.lemmas.Fmt.{hex_byte}
 use Rattle.std.proofs.lemmas.Bool.{ne_eqb}
 use Rattle.std.proofs.lemmas.Bool.Decides.{nat_tests}
-use Rattle.checking.specs.Escapes.{escape_of, hex, printable}
+use Rattle.checking.specs.Escapes.{hex, printable}
 use Rattle.checking.proofs.escape.EscapeDisplay.fmt.Goals as goal
 use Rattle.checking.proofs.escape.EscapeDisplay.fmt.Goals.{in_default-via-then-byte-lt32, in_default-via-else-byte-lt32+else-byte-lt127}
 
