@@ -12,7 +12,6 @@ pub struct Escape(pub u8);
 impl fmt::Display for Escape {
     ghost output = { λ e. Some (escape_of e.0) };
 
-    #[tactic(auto, using(std::proofs::lemmas::Fmt::hex_byte))]
     fn fmt<W: fmt::Write>(&self, f: &mut fmt::Formatter<W>) -> fmt::Result {
         let byte = self.0;
         match byte {
@@ -27,7 +26,7 @@ impl fmt::Display for Escape {
 #[derive(Clone, Copy, PartialEq, Eq, Debug)]
 pub struct Escapes<'a>(pub &'a [u8]);
 
-impl<'a> fmt::Display for Escapes<'a> {
+impl fmt::Display for Escapes<'_> {
     ghost output = { λ e. Some (escapes e.0.now) };
 
     fn fmt<W: fmt::Write>(&self, f: &mut fmt::Formatter<W>) -> fmt::Result {

@@ -27,9 +27,7 @@ fn says(
     pointer: &str,
 ) -> Result<(), Fail> {
     let text = check(heap, book)?;
-    let mut expected = String::from_str(heap, head)?;
-    expected.push_str(meaning)?;
-    expected.push_str(pointer)?;
+    let expected = format!(in heap; "{head}{meaning}{pointer}")?;
     assert_eq!(rt; text.as_slice(), expected.as_bytes());
     Ok(())
 }

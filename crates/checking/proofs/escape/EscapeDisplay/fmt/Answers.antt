@@ -14,5 +14,5 @@ pub returns-in_default-clause-writes : goal.returns-in_default-clause-writes
 returns-in_default-clause-writes g c =
     let b : ℕ = c.args.self.now.0 in
     let hidden : printable b ≡ false = elim c.in_default.branch [ in_default-via-then-byte-lt32 w ↦ grind (arith, nat_tests) | in_default-via-else-byte-lt32+else-byte-lt127 w ↦ grind (arith, nat_tests) ] in
-    let written = rw (c.laid_out.ensures, c.in_radix.ensures, hex_byte false b (omega arith), glyph_is_hex (b / 16), glyph_is_hex (b % 16)) at c.write-in_default.ensures.writes in
-    rw (ne_eqb b 92 (omega arith), hidden) written
+    let written = rw (c.laid_out.ensures, c.in_radix.ensures) at c.write-in_default.ensures.writes in
+    rw (ne_eqb b 92 (omega arith), hidden, ← glyph_is_hex (b / 16), ← glyph_is_hex (b % 16), ← hex_byte false b (omega arith)) written
