@@ -1,4 +1,3 @@
-mod Escaping
-mod Joining
+mod Splitting
 mod Asked
 mod Saying

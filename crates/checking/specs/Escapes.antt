@@ -1,5 +1,6 @@
 -- How bytes are shown on a terminal.
-use Rattle.std.specs.Prelude.{ℕ, ◌+◌, ◌-◌, ◌/◌, ◌%◌, Bool, cond, ◌&&◌, List, [], ◌∷◌, ◌++◌, ◌==◌, nat_le, nat_lt}
+use Rattle.std.specs.Prelude.{ℕ, ◌+◌, ◌-◌, ◌/◌, ◌%◌, Bool, cond, ◌&&◌, List, [], ◌∷◌, ◌==◌, nat_le, nat_lt}
+use Rattle.std.specs.List.{flat_map}
 
 -- The characters from the space to `~`.
 abbrev pub printable : ℕ → Bool
@@ -18,5 +19,4 @@ escape_of b =
 
 -- Bytes one after another.
 abbrev pub escapes : List ℕ → List ℕ
-escapes [] = []
-escapes (b ∷ bs) = escape_of b ++ escapes bs
+escapes bs = flat_map escape_of bs

@@ -1,48 +1,39 @@
-ghost use Rattle.std.specs.Prelude.{◌≡◌, ◌<◌, ◌≤◌, ◌++◌, length, take, OnOk};
-ghost use Rattle.checking.specs.Escapes.{escape_of, escapes, hex};
+ghost use Rattle.std.specs.Prelude.{◌≡◌, ◌++◌, Some, OnOk};
+ghost use Rattle.checking.specs.Escapes.{escape_of, escapes};
 
 use std::alloc::AllocError;
+use std::fmt;
 
-/// How a byte is shown: the first `width` of `bytes`.
+/// A byte as it is shown: a printable one as itself, a backslash twice, any other as `\x` and two
+/// hexadecimal digits.
 #[derive(Clone, Copy, PartialEq, Eq, Debug)]
-pub struct Escape {
-    pub bytes: [u8; 4],
-    pub width: usize,
-}
+pub struct Escape(pub u8);
 
-impl Escape {
-    /// How a byte is shown: a printable one as itself, a backslash twice, any other as `\x` and two
-    /// hexadecimal digits.
-    pub fn new(byte: u8) -> Escape
-        ensures shown { take result.width result.bytes ≡ escape_of byte }
-        ensures wide { result.width ≡ length (escape_of byte) }
-        ensures fits { result.width ≤ 4 }
-    {
+impl fmt::Display for Escape {
+    ghost output = { λ e. Some (escape_of e.0) };
+
+    fn fmt<W: fmt::Write>(&self, f: &mut fmt::Formatter<W>) -> fmt::Result {
+        let byte = self.0;
         match byte {
-            b'\\' => Escape {
-                bytes: [b'\\', b'\\', 0, 0],
-                width: 2,
-            },
-            b' '..=b'~' => Escape {
-                bytes: [byte, 0, 0, 0],
-                width: 1,
-            },
-            _ => Escape {
-                bytes: [b'\\', b'x', hex_digit(byte / 16), hex_digit(byte % 16)],
-                width: 4,
-            },
+            b'\\' => f.write_str("\\\\"),
+            b' '..=b'~' => write!(f, "{}", char::from(byte)),
+            _ => write!(f, "\\x{byte:02x}"),
         }
     }
 }
 
-fn hex_digit(half: u8) -> u8
-    requires { half < 16 }
-    ensures { result ≡ hex half }
-{
-    if half < 10 {
-        b'0' + half
-    } else {
-        b'a' + (half - 10)
+/// Bytes as they are shown, one after another.
+#[derive(Clone, Copy, PartialEq, Eq, Debug)]
+pub struct Escapes<'a>(pub &'a [u8]);
+
+impl fmt::Display for Escapes<'_> {
+    ghost output = { λ e. Some (escapes e.0.now) };
+
+    fn fmt<W: fmt::Write>(&self, f: &mut fmt::Formatter<W>) -> fmt::Result {
+        for byte in self.0 {
+            write!(f, "{}", Escape(*byte))?;
+        }
+        Ok(())
     }
 }
 
@@ -50,9 +41,6 @@ fn hex_digit(half: u8) -> u8
 pub fn put_escaped(text: &mut Vec<u8>, bytes: &[u8]) -> Result<(), AllocError>
     ensures { OnOk result (text.new.items ≡ text.old.items ++ escapes bytes.now) }
 {
-    for byte in bytes {
-        let shown = Escape::new(*byte);
-        text.extend_from_slice(&shown.bytes[..shown.width])?;
-    }
-    Ok(())
+    let shown = Escapes(bytes).to_string(*text.allocator())?;
+    text.extend_from_slice(shown.as_bytes())
 }

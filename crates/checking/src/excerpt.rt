@@ -14,6 +14,7 @@ pub const BYTES_AFTER: usize = 20;
 pub struct Excerpt {
     pub from: usize,
     pub to: usize,
+    // the two ends do not say whether the line goes on past them
     /// Bytes of the line before it are left out.
     pub cut_before: bool,
     /// Bytes of the line after it are left out.

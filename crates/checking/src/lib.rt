@@ -17,7 +17,7 @@ mod tests;
 mod words;
 
 pub use asking::{MOST_INPUT, check};
-pub use escape::{Escape, put_escaped};
+pub use escape::{Escape, Escapes, put_escaped};
 pub use excerpt::{BYTES_AFTER, BYTES_BEFORE, Excerpt};
 pub use line::Line;
 pub use pointing::put_pointer;

@@ -1,7 +1,8 @@
 ghost use Rattle.checking.specs.Lines.{Starts, Ends, Around};
-ghost use Rattle.std.specs.Prelude.{◌≤◌, length};
+ghost use Rattle.std.specs.Prelude.{length};
 
 /// The bytes of one line, without its line feed: from `start` up to `end`.
+// A `Range` would be no plainer: it is an iterator, and not `Copy`.
 #[derive(Clone, Copy, PartialEq, Eq, Debug)]
 pub struct Line {
     pub start: usize,
@@ -11,37 +12,32 @@ pub struct Line {
 impl Line {
     /// The line that a place stands on. A line feed stands at the end of the line that it closes, and a
     /// place past the bytes at the end of the last line.
+    #[tactic(auto, using(crate::proofs::Splitting::starts_in_front, crate::proofs::Splitting::ends_in_rest))]
     pub fn around(bytes: &[u8], place: usize) -> Line
         ensures { Around bytes.now place result }
     {
         let place = place.min(bytes.len());
+        let (before, after) = bytes.split_at(place);
         Line {
-            start: line_start(bytes, place),
-            end: line_end(bytes, place),
+            start: line_start(before),
+            end: place + line_end(after),
         }
     }
 }
 
-fn line_start(bytes: &[u8], place: usize) -> usize
-    requires { place ≤ length bytes.now }
-    ensures { Starts bytes.now place result }
+// Where the last line of the bytes starts.
+fn line_start(bytes: &[u8]) -> usize
+    ensures { Starts bytes.now (length bytes.now) result }
 {
-    for i in (0..place).rev() {
-        if bytes[i] == b'\n' {
-            return i + 1;
-        }
-    }
-    0
+    bytes.iter().rposition(|b| *b == b'\n').map_or(0, |i| i + 1)
 }
 
-fn line_end(bytes: &[u8], place: usize) -> usize
-    requires { place ≤ length bytes.now }
-    ensures { Ends bytes.now place result }
+// Where the first line of the bytes ends.
+fn line_end(bytes: &[u8]) -> usize
+    ensures { Ends bytes.now 0 result }
 {
-    for i in place..bytes.len() {
-        if bytes[i] == b'\n' {
-            return i;
-        }
-    }
-    bytes.len()
+    bytes
+        .iter()
+        .position(|b| *b == b'\n')
+        .unwrap_or(bytes.len())
 }

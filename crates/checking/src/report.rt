@@ -1,11 +1,12 @@
 ghost use Rattle.std.specs.Prelude.{◌≡◌, ℕ, List, ◌++◌, IfOk, string_bytes, OnOk};
-ghost use Rattle.checking.specs.Reports.{Refusal, acceptance, refusal_head_lem, acceptance_head_lem};
+ghost use Rattle.checking.specs.Reports.{Refusal, acceptance, acceptance_head_lem};
 
-use crate::pointing::put_pointer;
+use crate::pointing::pointer;
 use crate::words::meaning;
 use books::BookFault;
 use station_with_books::Counts;
 use std::alloc::{AllocError, Global};
+use tokens::Spot;
 
 /// Puts what is said of an accepted book at the end of a text: a line with its counts, as in
 /// `book accepted: classes 2, rules 1, expressions 4`, and then the book as it was shown.
@@ -14,8 +15,7 @@ pub fn put_acceptance(text: &mut Vec<u8>, counts: Counts, book: &[u8]) -> Result
 {
     let head = acceptance_head(*text.allocator(), counts)?;
     text.extend_from_slice(head.as_bytes())?;
-    text.extend_from_slice(book)?;
-    Ok(())
+    text.extend_from_slice(book)
 }
 
 /// Puts what is said of a refused book at the end of a text, four lines: the fault's number, line and
@@ -23,29 +23,27 @@ pub fn put_acceptance(text: &mut Vec<u8>, counts: Counts, book: &[u8]) -> Result
 pub fn put_refusal(text: &mut Vec<u8>, book: &[u8], fault: &BookFault) -> Result<(), AllocError>
     ensures { OnOk result ((said : List ℕ) × Refusal book.now fault.now said × (text.new.items ≡ text.old.items ++ said)) }
 {
-    let head = refusal_head(*text.allocator(), fault)?;
-    text.extend_from_slice(head.as_bytes())?;
-    text.extend_from_slice(meaning(fault).as_bytes())?;
-    text.extend_from_slice(b"\n")?;
-    put_pointer(text, book, fault.spot().place)?;
-    Ok(())
+    let said = refusal(*text.allocator(), book, fault)?;
+    text.extend_from_slice(said.as_bytes())
 }
 
 fn acceptance_head(heap: Global, counts: Counts) -> Result<String, AllocError>
     ensures { IfOk result (λ s. string_bytes s ≡ acceptance_head_lem counts) }
 {
-    let classes = counts.classes;
-    let rules = counts.rules;
-    let expressions = counts.expressions;
+    let Counts {
+        classes,
+        rules,
+        expressions,
+    } = counts;
     format!(in heap; "book accepted: classes {classes}, rules {rules}, expressions {expressions}\n")
 }
 
-fn refusal_head(heap: Global, fault: &BookFault) -> Result<String, AllocError>
-    ensures { IfOk result (λ s. string_bytes s ≡ refusal_head_lem fault.now) }
+fn refusal(heap: Global, book: &[u8], fault: &BookFault) -> Result<String, AllocError>
+    ensures { IfOk result (λ s. Refusal book.now fault.now (string_bytes s)) }
 {
     let number = fault.number();
-    let spot = fault.spot();
-    let line = spot.line;
-    let place = spot.place;
-    format!(in heap; "book {number} line {line} place {place}\n")
+    let Spot { place, line } = fault.spot();
+    let meaning = meaning(fault);
+    let pointer = pointer(heap, book, place)?;
+    format!(in heap; "book {number} line {line} place {place}\n{meaning}\n{pointer}")
 }

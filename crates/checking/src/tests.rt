@@ -1,4 +1,5 @@
 use crate::asking::{MOST_INPUT, check};
+use crate::escape::{Escape, Escapes, put_escaped};
 use crate::pointing::put_pointer;
 use std::alloc::Global;
 use std::process::Abort;
@@ -26,9 +27,7 @@ fn says(
     pointer: &str,
 ) -> Result<(), Fail> {
     let text = check(heap, book)?;
-    let mut expected = String::from_str(heap, head)?;
-    expected.push_str(meaning)?;
-    expected.push_str(pointer)?;
+    let expected = format!(in heap; "{head}{meaning}{pointer}")?;
     assert_eq!(rt; text.as_slice(), expected.as_bytes());
     Ok(())
 }
@@ -108,6 +107,19 @@ fn the_caret_counts_what_is_shown(rt: HostRuntime) -> Result<(), Fail> {
     points(&rt, heap, b"\xffb\n", 1, "\\xffb\n    ^\n")?;
     points(&rt, heap, b"\x7f~", 9, "\\x7f~\n     ^\n")?;
     points(&rt, heap, b"one\ntwo\nthree", 7, "two\n   ^\n")
+}
+
+#[test]
+fn bytes_are_shown_one_after_another(rt: HostRuntime) -> Result<(), Fail> {
+    let heap = rt.alloc();
+    let one = Escape(b'\t').to_string(heap)?;
+    assert_eq!(rt; one.as_str(), "\\x09");
+    let all = Escapes(b" ~\x1f\x7f\xf0\\").to_string(heap)?;
+    assert_eq!(rt; all.as_str(), " ~\\x1f\\x7f\\xf0\\\\");
+    let mut text = vec![in heap; b'>']?;
+    put_escaped(&mut text, b"a\n")?;
+    assert_eq!(rt; text.as_slice(), b">a\\x0a".as_slice());
+    Ok(())
 }
 
 #[test]

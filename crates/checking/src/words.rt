@@ -2,6 +2,7 @@ use books::{BookFault, ExprFault};
 use tokens::TokenFault;
 
 /// What a fault means and where its place points, in one line of plain words.
+// A fixed text, and nothing to format; a `Display` would have to state this table once more as its output.
 pub(crate) fn meaning(fault: &BookFault) -> &'static str {
     match *fault {
         BookFault::TooLong(_) => {

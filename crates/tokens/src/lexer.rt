@@ -1,110 +1,48 @@
-ghost use Rattle.std.specs.Prelude.{◌≡◌, ◌+◌, ◌<◌, ◌≤◌, length, drop, if◌then◌else◌, Some, None, MatchResult, nat_lt};
+ghost use Rattle.std.specs.Prelude.{◌≡◌, ℕ, ◌+◌, ◌≤◌, List, ◌&&◌, ◌||◌, ◌==◌, length, take, drop, slice_index, if◌then◌else◌, Some, None, MatchOption, MatchResult, nat_lt};
 ghost use Rattle.std.specs.List.{prefix_len};
-ghost use Rattle.std.specs.Str.{bytes_eq};
 ghost use Rattle.tokens.specs.Out.{ok, no};
+ghost use Rattle.tokens.specs.Spots.{spot};
 ghost use Rattle.tokens.specs.Lexing.{letter, digit, value, word_of, number_token, lexing};
+ghost use Rattle.tokens.specs.declared.token.Token.TheVariants.{Number};
+ghost use Rattle.tokens.specs.declared.token.TokenFault.TheVariants.{BadNumber};
 
 use crate::spot::spot_at;
 use crate::token::{Token, TokenFault, Word};
 
-// The greatest number that a book may write.
-const GREATEST: u64 = 4_294_967_295;
-
-// How many digits a number has that begins with 0.
-const ZERO_DIGITS: usize = 1;
-
-fn same(a: &[u8], b: &[u8]) -> bool
-    ensures { result ≡ bytes_eq a.now b.now }
+// The number that the digits write, unless it has a needless zero or is too great.
+#[tactic(auto, using(crate::proofs::Lexes::too_great))]
+fn number(digits: &[u8]) -> Option<u32>
+    ensures { result ≡ (if (slice_index digits.now 0 == 48 && nat_lt 1 (length digits.now)) || nat_lt 4294967295 (value 0 digits.now) then None else Some (value 0 digits.now)) }
 {
-    a == b
-}
-
-// The word that these letters spell.
-fn word_of(letters: &[u8]) -> Word
-    ensures { result ≡ word_of letters.now }
-{
-    if same(letters, b"class") {
-        Word::Class
-    } else if same(letters, b"rule") {
-        Word::Rule
-    } else if same(letters, b"empty") {
-        Word::Empty
-    } else if same(letters, b"any") {
-        Word::Any
-    } else if same(letters, b"term") {
-        Word::Term
-    } else if same(letters, b"call") {
-        Word::Call
-    } else if same(letters, b"seq") {
-        Word::Seq
-    } else if same(letters, b"alt") {
-        Word::Alt
-    } else if same(letters, b"star") {
-        Word::Star
-    } else if same(letters, b"not") {
-        Word::Not
-    } else {
-        Word::Other
+    if let [b'0', _, ..] = digits {
+        return None;
     }
-}
-
-// The end of the run of letters that begins at `at`.
-fn letters_end(bytes: &[u8], at: usize) -> usize
-    requires { at ≤ length bytes.now }
-    ensures counts { result ≡ at + prefix_len letter (drop at bytes.now) }
-    ensures within { result ≤ length bytes.now }
-{
-    let mut end = at;
-    while end < bytes.len() && bytes[end].is_ascii_lowercase() {
-        end += 1;
-    }
-    end
-}
-
-// The end of the run of digits that begins at `at`.
-fn digits_end(bytes: &[u8], at: usize) -> usize
-    requires { at ≤ length bytes.now }
-    ensures counts { result ≡ at + prefix_len digit (drop at bytes.now) }
-    ensures within { result ≤ length bytes.now }
-{
-    let mut end = at;
-    while end < bytes.len() && bytes[end].is_ascii_digit() {
-        end += 1;
-    }
-    end
-}
-
-// The number that the digits write, unless it is too great.
-fn digits_value(digits: &[u8]) -> Option<u32>
-    ensures { result ≡ (if nat_lt 4294967295 (value 0 digits.now) then None else Some (value 0 digits.now)) }
-{
-    let mut sum: u64 = 0;
+    let mut sum = 0u32;
     for digit in digits {
-        sum = 10 * sum + u64::from(digit.saturating_sub(b'0'));
-        // more digits never make it less
-        if sum > GREATEST {
-            return None;
-        }
+        sum = sum
+            .checked_mul(10)?
+            .checked_add(u32::from(digit.saturating_sub(b'0')))?;
     }
-    Some(sum as u32)
+    Some(sum)
 }
 
-// The number at `at`, where a digit stands, and the place after it.
-fn cut_number(bytes: &[u8], at: usize) -> Result<(Token, usize), TokenFault>
-    requires { at < length bytes.now }
-    ensures { MatchResult result
-        (λ p. (number_token bytes.now at (prefix_len digit (drop at bytes.now)) (drop at bytes.now)
-        ≡ ok p.0 p.1 (drop p.1 bytes.now)) × (at ≤ length bytes.now → p.1 ≤ length bytes.now))
-        (λ e. number_token bytes.now at (prefix_len digit (drop at bytes.now)) (drop at bytes.now) ≡ no e) }
+// The word at the front of the bytes, and how many letters it has.
+fn cut_word(bytes: &[u8]) -> (Word, usize)
+    ensures word { result.0 ≡ word_of (take result.1 bytes.now) }
+    ensures width { result.1 ≡ prefix_len letter bytes.now }
 {
-    let end = digits_end(bytes, at);
-    if bytes[at] == b'0' && end - at > ZERO_DIGITS {
-        return Err(TokenFault::BadNumber(spot_at(bytes, at)));
-    }
-    match digits_value(&bytes[at..end]) {
-        Some(number) => Ok((Token::Number(number), end)),
-        None => Err(TokenFault::BadNumber(spot_at(bytes, at))),
-    }
+    let width = bytes.iter().take_while(|b| b.is_ascii_lowercase()).count();
+    (Word::from(&bytes[..width]), width)
+}
+
+// The number at the front of the bytes, if it is one that a book may write, and how many digits it has.
+fn cut_number(bytes: &[u8]) -> Option<(u32, usize)>
+    ensures { (book : List ℕ) (at : ℕ) → let n = prefix_len digit bytes.now in MatchOption result
+        (number_token book at n bytes.now ≡ no (BadNumber (spot book at)))
+        (λ p. (number_token book at n bytes.now ≡ ok (Number p.0) (at + p.1) (drop p.1 bytes.now)) × (p.1 ≤ length bytes.now)) }
+{
+    let width = bytes.iter().take_while(|b| b.is_ascii_digit()).count();
+    number(&bytes[..width]).map(|number| (number, width))
 }
 
 /// The token that begins at the place `at`, and the place after it.
@@ -116,19 +54,22 @@ pub fn next_token(bytes: &[u8], at: usize) -> Result<(Token, usize), TokenFault>
         × (at ≤ length bytes.now → p.1 ≤ length bytes.now))
         (λ e. lexing bytes.now at (drop at bytes.now) ≡ no e) }
 {
-    if at >= bytes.len() {
-        return Ok((Token::End, at));
-    }
-    match &bytes[at..] {
+    let rest = bytes.get(at..).unwrap_or_default();
+    match rest {
+        [] => Ok((Token::End, at)),
         [b'(', ..] => Ok((Token::Open, at + 1)),
         [b')', ..] => Ok((Token::Close, at + 1)),
         [b' ', ..] => Ok((Token::Space, at + 1)),
         [b'\n', ..] => Ok((Token::Feed, at + 1)),
         [b'a'..=b'z', ..] => {
-            let end = letters_end(bytes, at);
-            Ok((Token::Letters(word_of(&bytes[at..end])), end))
+            let (word, width) = cut_word(rest);
+            Ok((Token::Letters(word), at + width))
         }
-        [b'0'..=b'9', ..] => cut_number(bytes, at),
+        [b'0'..=b'9', ..] => {
+            let bad = || TokenFault::BadNumber(spot_at(bytes, at));
+            let (number, width) = cut_number(rest).ok_or_else(bad)?;
+            Ok((Token::Number(number), at + width))
+        }
         _ => Err(TokenFault::Stray(spot_at(bytes, at))),
     }
 }

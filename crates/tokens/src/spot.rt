@@ -14,12 +14,10 @@ pub struct Spot {
 pub fn spot_at(bytes: &[u8], place: usize) -> Spot
     ensures { result ≡ spot bytes.now place }
 {
-    let before = &bytes[0..place.min(bytes.len())];
-    let mut line = 1;
-    for byte in before {
-        if *byte == b'\n' {
-            line += 1;
-        }
+    let before = &bytes[..place.min(bytes.len())];
+    let feeds = before.iter().filter(|b| **b == b'\n').count();
+    Spot {
+        place,
+        line: 1 + feeds,
     }
-    Spot { place, line }
 }

@@ -4,14 +4,11 @@ use crate::token::{Token, TokenFault, Word};
 
 // Whether this token stands at `at`, and the next place is `next`.
 fn gives(bytes: &[u8], at: usize, token: Token, next: usize) -> bool {
-    match next_token(bytes, at) {
-        Ok((found, end)) => found == token && end == next,
-        Err(_) => false,
-    }
+    next_token(bytes, at) == Ok((token, next))
 }
 
 fn word(letters: &[u8], word: Word) -> bool {
-    gives(letters, 0, Token::Letters(word), letters.len())
+    Word::from(letters) == word && gives(letters, 0, Token::Letters(word), letters.len())
 }
 
 fn stray(bytes: &[u8], place: usize, line: usize) -> bool {

@@ -1,3 +1,6 @@
+ghost use Rattle.std.specs.Prelude.{◌≡◌};
+ghost use Rattle.tokens.specs.Lexing.{word_of};
+
 use crate::spot::Spot;
 
 /// What a run of small letters says.
@@ -43,4 +46,25 @@ pub enum TokenFault {
     Stray(Spot),
     /// A number with a needless leading zero, or over 4,294,967,295.
     BadNumber(Spot),
+}
+
+/// The word that letters spell.
+impl From<&[u8]> for Word {
+    ghost from_gives = { λ letters r. r ≡ word_of letters.now };
+
+    fn from(letters: &[u8]) -> Word {
+        match letters {
+            b"class" => Word::Class,
+            b"rule" => Word::Rule,
+            b"empty" => Word::Empty,
+            b"any" => Word::Any,
+            b"term" => Word::Term,
+            b"call" => Word::Call,
+            b"seq" => Word::Seq,
+            b"alt" => Word::Alt,
+            b"star" => Word::Star,
+            b"not" => Word::Not,
+            _ => Word::Other,
+        }
+    }
 }
