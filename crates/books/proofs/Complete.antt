@@ -26,7 +26,6 @@ use Rattle.books.specs.declared.head.Head.{Head}
 use Rattle.books.specs.declared.head.Head.TheVariants.{Leaf, Numbered, One, Two}
 use Rattle.books.specs.declared.head.LineWord.TheVariants.{Class as ClassLine, Rule as RuleLine}
 use Rattle.books.specs.Heads.{leaf, numbered, one, two, leaf_word, numbered_word, one_word, two_word}
-use Rattle.books.specs.Tests.{is_open, is_close, is_space, is_feed, is_rule}
 use Rattle.books.specs.Reading.{expecting, valued, numbering, heading, operand, operands, expression, line_heading}
 use Rattle.books.proofs.Lexed.{own}
 use Rattle.books.proofs.Outs.{operand_ok, leaf_ok, number_ok, one_ok, two_ok, close_ok, inner}
@@ -44,23 +43,23 @@ run_digits (d ∷ ds) x r a e =
 
 module _ (bs : List ℕ) where
   module _ (at : ℕ) (r : List ℕ) where
-    pub open_there : expecting bs is_open at (40 ∷ r) ≡ ok Open (at + 1) r
+    pub open_there : expecting bs Open at (40 ∷ r) ≡ ok Open (at + 1) r
     unfolding expecting
     open_there = refl
 
-    pub close_there : expecting bs is_close at (41 ∷ r) ≡ ok Close (at + 1) r
+    pub close_there : expecting bs Close at (41 ∷ r) ≡ ok Close (at + 1) r
     unfolding expecting
     close_there = refl
 
-    pub space_there : expecting bs is_space at (32 ∷ r) ≡ ok Space (at + 1) r
+    pub space_there : expecting bs Space at (32 ∷ r) ≡ ok Space (at + 1) r
     unfolding expecting
     space_there = refl
 
-    pub feed_there : expecting bs is_feed at (10 ∷ r) ≡ ok Feed (at + 1) r
+    pub feed_there : expecting bs Feed at (10 ∷ r) ≡ ok Feed (at + 1) r
     unfolding expecting
     feed_there = refl
 
-    pub rule_there : Reads (expecting bs is_rule at (codes "rule" ++ (32 ∷ r))) (Letters Rule) (32 ∷ r)
+    pub rule_there : Reads (expecting bs (Letters Rule) at (codes "rule" ++ (32 ∷ r))) (Letters Rule) (32 ∷ r)
     unfolding expecting
     rule_there = (_, refl)
 

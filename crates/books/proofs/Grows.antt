@@ -4,6 +4,7 @@ use Rattle.std.proofs.lemmas.List.{append-nil, set_at}
 use Rattle.std.proofs.lemmas.Bool.{ltb-true, ltb-false, lt-ltb}
 use Rattle.tokens.specs.Out.{Out, ok, no, inside}
 use Rattle.tokens.specs.declared.token.Token.{Token}
+use Rattle.tokens.specs.declared.token.Token.TheVariants.{Open, Close, Space}
 use Rattle.grammar.specs.declared.node.Operator.{Operator}
 use Rattle.grammar.specs.declared.table.Table.{Table}
 use Rattle.grammar.specs.Expr.{Expr, size}
@@ -21,13 +22,12 @@ use Rattle.books.specs.declared.head.One.{One as OneOf}
 use Rattle.books.specs.declared.head.Two.{Two as TwoOf}
 use Rattle.books.specs.declared.head.Head.{Head}
 use Rattle.books.specs.declared.head.Head.TheVariants.{Leaf, Numbered, One, Two}
-use Rattle.books.specs.Tests.{is_open, is_close, is_space}
 use Rattle.books.specs.Heads.{leaf, numbered, one, two, leaf_op, numbered_op, one_op, two_op, one_word, two_word, head_word}
 use Rattle.books.specs.Reading.{expecting, numbering, heading, operand, operands, expression}
 use Rattle.books.specs.Steps.{count, Grown, Filled}
 use Rattle.books.proofs.Lexed.{Gives, given}
 use Rattle.books.proofs.Heads.{op_leaf, below_leaf, op_numbered, below_numbered, op_one, below_one, op_two, below_two}
-use Rattle.books.proofs.Sound.{open_gives, head_gives, space_gives, operand_sound, expression_sound}
+use Rattle.books.proofs.Sound.{expecting_gives, head_gives, operand_sound, expression_sound}
 use Rattle.books.proofs.Outs.{leaf_ok, number_ok, one_ok, two_ok, second_no, close_ok, close_no, operands_no, inner, expression_some}
 
 given_back : {E A : Type 0} {P : A → ℕ → List ℕ → Type 0} {a : A} {at : ℕ} {xs : List ℕ} → Gives {E = E} P (ok a at xs) → P a at xs
@@ -49,14 +49,14 @@ moved_expr bs x at next h k e =
     omega (arith, l, length-drop at bs, length-drop next bs)
 
 module _ (bs : List ℕ) (at next : ℕ) (h : at ≤ length bs) (k : next ≤ length bs) where
-  pub open_moved : {t : Token} → expecting bs is_open at (drop at bs) ≡ ok t next (drop next bs) → next ≡ at + 1
-  open_moved e = moved bs (40 ∷ []) at next h k (given_at (open_gives bs at (drop at bs)) (ap (inside InExpr) e))
+  pub open_moved : {t : Token} → expecting bs Open at (drop at bs) ≡ ok t next (drop next bs) → next ≡ at + 1
+  open_moved e = moved bs (40 ∷ []) at next h k (given_at (expecting_gives bs Open at (drop at bs)) e)
 
-  pub space_moved : {t : Token} → expecting bs is_space at (drop at bs) ≡ ok t next (drop next bs) → next ≡ at + 1
-  space_moved e = moved bs (32 ∷ []) at next h k (given_at (space_gives bs at (drop at bs)) (ap (inside InExpr) e))
+  pub space_moved : {t : Token} → expecting bs Space at (drop at bs) ≡ ok t next (drop next bs) → next ≡ at + 1
+  space_moved e = moved bs (32 ∷ []) at next h k (given_at (expecting_gives bs Space at (drop at bs)) e)
 
   pub head_moved : {w : Head} → heading bs at (drop at bs) ≡ ok w next (drop next bs) → next ≡ at + length (head_word w)
-  head_moved {w = w} e = moved bs (head_word w) at next h k (given_at (head_gives bs at (drop at bs)) (ap (inside InExpr) e))
+  head_moved {w = w} e = moved bs (head_word w) at next h k (given_at (head_gives bs at (drop at bs)) e)
 
   pub operand_moved : (l n : ℕ) {x : Expr} → operand bs (expression bs l) n at (drop at bs) ≡ ok x next (drop next bs) → next ≡ at + 1 + width x
   operand_moved l n {x = x} e =
@@ -65,7 +65,7 @@ module _ (bs : List ℕ) (at next : ℕ) (h : at ≤ length bs) (k : next ≤ le
       omega (arith, q, length-drop at bs, length-drop next bs)
 
 -- the place of an expression, from where its operands are read
-pub head_place : (bs : List ℕ) (at word rest : ℕ) → at ≤ length bs → word ≤ length bs → rest ≤ length bs → {t : Token} {h : Head} → expecting bs is_open at (drop at bs) ≡ ok t word (drop word bs) → heading bs word (drop word bs) ≡ ok h rest (drop rest bs) → rest ≡ at + (length (head_word h) + 1)
+pub head_place : (bs : List ℕ) (at word rest : ℕ) → at ≤ length bs → word ≤ length bs → rest ≤ length bs → {t : Token} {h : Head} → expecting bs Open at (drop at bs) ≡ ok t word (drop word bs) → heading bs word (drop word bs) ≡ ok h rest (drop rest bs) → rest ≡ at + (length (head_word h) + 1)
 head_place bs at word rest i j k o w = omega (arith, open_moved bs at word i j o, head_moved bs word rest j k w)
 
 -- how many expressions the table has after a reading
@@ -80,7 +80,7 @@ module _ (bs : List ℕ) (l : ℕ) (h : Head) (at : ℕ) (T₀ : Table) (place :
   filled_leaf k i o q =
       record { tree = leaf k; says = leaf_ok bs (expression bs l) h _ _ _ k i; is = q ∙ sym (op_leaf k); within = fits; wrote = sym (append-nil (laid T₀)) ∙ ap (λ ns. laid T₀ ++ ns) (sym (below_leaf (count T₀) place k)) }
 
-  pub filled_number : (k : NumberedOf) → h ≡ Numbered k → (o : Operator) {t : Token} {at₁ v next : ℕ} → o ≡ numbered_op k v → expecting bs is_space at (drop at bs) ≡ ok t at₁ (drop at₁ bs) → numbering bs at₁ (drop at₁ bs) ≡ ok v next (drop next bs) → next ≤ length bs → Filled (operands bs (expression bs l) h (count T₀) at (drop at bs)) bs place T₀ T₀ o next
+  pub filled_number : (k : NumberedOf) → h ≡ Numbered k → (o : Operator) {t : Token} {at₁ v next : ℕ} → o ≡ numbered_op k v → expecting bs Space at (drop at bs) ≡ ok t at₁ (drop at₁ bs) → numbering bs at₁ (drop at₁ bs) ≡ ok v next (drop next bs) → next ≤ length bs → Filled (operands bs (expression bs l) h (count T₀) at (drop at bs)) bs place T₀ T₀ o next
   filled_number k i o {v = v} q s e w =
       record { tree = numbered k v; says = number_ok bs (expression bs l) h _ _ _ k i s e; is = q ∙ sym (op_numbered k v); within = w; wrote = sym (append-nil (laid T₀)) ∙ ap (λ ns. laid T₀ ++ ns) (sym (below_numbered (count T₀) place k v)) }
 
@@ -139,7 +139,7 @@ pub roomed : {X : Type 0} (n : ℕ) (x a b : X) → n < 512 → x ≡ cond (ltb 
 roomed n x a b h e = e ∙ ap (λ t. cond t a b) (lt-ltb n 512 h)
 
 -- an expression whose operands have been read
-module _ (bs : List ℕ) (l at : ℕ) (T₀ T₁ T₂ : Table) (positive : 0 < l) (few : count T₀ < 512) (room : laid T₁ ≡ laid T₀ ++ (blank ∷ [])) {t : Token} {at₁ : ℕ} (o : expecting bs is_open at (drop at bs) ≡ ok t at₁ (drop at₁ bs)) {h : Head} {at₂ : ℕ} (w : heading bs at₁ (drop at₁ bs) ≡ ok h at₂ (drop at₂ bs)) where
+module _ (bs : List ℕ) (l at : ℕ) (T₀ T₁ T₂ : Table) (positive : 0 < l) (few : count T₀ < 512) (room : laid T₁ ≡ laid T₀ ++ (blank ∷ [])) {t : Token} {at₁ : ℕ} (o : expecting bs Open at (drop at bs) ≡ ok t at₁ (drop at₁ bs)) {h : Head} {at₂ : ℕ} (w : heading bs at₁ (drop at₁ bs) ≡ ok h at₂ (drop at₂ bs)) where
   counted : count T₁ ≡ count T₀ + 1
   counted = ap length room ∙ length-append (laid T₀) (blank ∷ [])
 
@@ -147,7 +147,7 @@ module _ (bs : List ℕ) (l at : ℕ) (T₀ T₁ T₂ : Table) (positive : 0 < l
   grown_operands_no e = expression_some bs l _ at _ positive ∙ operands_no bs (inner bs (l - 1)) _ _ _ o w few (ap (λ n. operands bs (expression bs (l - 1)) h n at₂ (drop at₂ bs)) (sym counted) ∙ e)
 
   module _ {x : Operator} {at₃ : ℕ} (g : Filled (operands bs (expression bs (l - 1)) h (count T₁) at₂ (drop at₂ bs)) bs at T₁ T₂ x at₃) where
-    pub grown_close_no : {e : ExprFault} → expecting bs is_close at₃ (drop at₃ bs) ≡ no e → expression bs l (count T₀) at (drop at bs) ≡ no (InExpr e)
+    pub grown_close_no : {e : ExprFault} → expecting bs Close at₃ (drop at₃ bs) ≡ no e → expression bs l (count T₀) at (drop at bs) ≡ no (InExpr e)
     grown_close_no e = expression_some bs l _ at _ positive ∙ close_no bs (inner bs (l - 1)) _ _ _ o w few (ap (λ n. operands bs (expression bs (l - 1)) h n at₂ (drop at₂ bs)) (sym counted) ∙ g.says) e
 
     -- the table when the room has been filled
@@ -166,7 +166,7 @@ module _ (bs : List ℕ) (l at : ℕ) (T₀ T₁ T₂ : Table) (positive : 0 < l
         ∙ ap (λ ns. set ns n (root n at e)) before
         ∙ set_at (laid T₀) blank (below (n + 1) at e) (root n at e) n refl
 
-    pub grown : (T₃ : Table) (slot place : ℕ) {t : Token} {next : ℕ} → expecting bs is_close at₃ (drop at₃ bs) ≡ ok t next (drop next bs) → next ≤ length bs → slot ≡ count T₀ → place ≡ at → laid T₃ ≡ set (laid T₂) slot (record { operator = x; end = count T₂; place = place }) → Grown (expression bs l (count T₀) at (drop at bs)) bs at T₀ T₃ next
+    pub grown : (T₃ : Table) (slot place : ℕ) {t : Token} {next : ℕ} → expecting bs Close at₃ (drop at₃ bs) ≡ ok t next (drop next bs) → next ≤ length bs → slot ≡ count T₀ → place ≡ at → laid T₃ ≡ set (laid T₂) slot (record { operator = x; end = count T₂; place = place }) → Grown (expression bs l (count T₀) at (drop at bs)) bs at T₀ T₃ next
     grown T₃ slot place q r s p last =
         record {
           tree = g.tree;

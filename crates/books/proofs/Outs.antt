@@ -4,6 +4,7 @@ use Rattle.std.proofs.lemmas.Bool.{le-leb, lt-leb}
 use Rattle.tokens.specs.Out.{Out, ok, no, after, inside}
 use Rattle.tokens.specs.Spots.{spot}
 use Rattle.tokens.specs.declared.token.Token.{Token}
+use Rattle.tokens.specs.declared.token.Token.TheVariants.{Open, Close, Space}
 use Rattle.grammar.specs.Expr.{Expr, size}
 use Rattle.books.specs.declared.fault.ExprFault.{ExprFault}
 use Rattle.books.specs.declared.fault.ExprFault.TheVariants.{TooDeep}
@@ -16,7 +17,6 @@ use Rattle.books.specs.declared.head.Two.{Two as TwoOf}
 use Rattle.books.specs.declared.head.Head.{Head}
 use Rattle.books.specs.declared.head.Head.TheVariants.{Leaf, Numbered, One, Two}
 use Rattle.books.specs.Heads.{leaf, numbered, one, two}
-use Rattle.books.specs.Tests.{is_open, is_close, is_space}
 use Rattle.books.specs.Reading.{expecting, numbering, heading, operand, operands, bracketed, expression, Reader}
 
 -- one reader after another
@@ -35,23 +35,23 @@ module _ {E F A B : Type 0} (g : E → F) (f : A → ℕ → List ℕ → Out F 
   inside_no e = ap (λ o. after (inside g o) f) e
 
 module _ (bs : List ℕ) (rd : Reader) (n at : ℕ) (xs : List ℕ) where
-  pub operand_ok : {m : Token} {at₁ : ℕ} {ys : List ℕ} → expecting bs is_space at xs ≡ ok m at₁ ys → operand bs rd n at xs ≡ rd n at₁ ys
+  pub operand_ok : {m : Token} {at₁ : ℕ} {ys : List ℕ} → expecting bs Space at xs ≡ ok m at₁ ys → operand bs rd n at xs ≡ rd n at₁ ys
   unfolding operand
   operand_ok e = inside_ok InExpr _ e
 
-  pub operand_no : {e : ExprFault} → expecting bs is_space at xs ≡ no e → operand bs rd n at xs ≡ no (InExpr e)
+  pub operand_no : {e : ExprFault} → expecting bs Space at xs ≡ no e → operand bs rd n at xs ≡ no (InExpr e)
   unfolding operand
   operand_no e = inside_no InExpr _ e
 
 abbrev closing : List ℕ → Expr → ℕ → List ℕ → Out BookFault Expr
-closing bs f at ws = after (inside InExpr (expecting bs is_close at ws)) (λ m at₄ vs. ok f at₄ vs)
+closing bs f at ws = after (inside InExpr (expecting bs Close at ws)) (λ m at₄ vs. ok f at₄ vs)
 
 module _ (bs : List ℕ) (rd : Head → Reader) (n at : ℕ) (xs : List ℕ) where
-  pub open_no : {e : ExprFault} → expecting bs is_open at xs ≡ no e → bracketed bs rd n at xs ≡ no (InExpr e)
+  pub open_no : {e : ExprFault} → expecting bs Open at xs ≡ no e → bracketed bs rd n at xs ≡ no (InExpr e)
   unfolding bracketed
   open_no e = inside_no InExpr _ e
 
-  module _ {m : Token} {at₁ : ℕ} {ys : List ℕ} (o : expecting bs is_open at xs ≡ ok m at₁ ys) where
+  module _ {m : Token} {at₁ : ℕ} {ys : List ℕ} (o : expecting bs Open at xs ≡ ok m at₁ ys) where
     pub head_no : {e : ExprFault} → heading bs at₁ ys ≡ no e → bracketed bs rd n at xs ≡ no (InExpr e)
     unfolding bracketed
     head_no e = inside_ok InExpr _ o ∙ inside_no InExpr _ e
@@ -69,10 +69,10 @@ module _ (bs : List ℕ) (rd : Head → Reader) (n at : ℕ) (xs : List ℕ) whe
       operands_no l e = few l ∙ after_no (closing bs) e
 
       module _ (l : n < 512) {f : Expr} {at₃ : ℕ} {ws : List ℕ} (p : rd h n at₂ zs ≡ ok f at₃ ws) where
-        pub close_no : {e : ExprFault} → expecting bs is_close at₃ ws ≡ no e → bracketed bs rd n at xs ≡ no (InExpr e)
+        pub close_no : {e : ExprFault} → expecting bs Close at₃ ws ≡ no e → bracketed bs rd n at xs ≡ no (InExpr e)
         close_no e = few l ∙ after_ok (closing bs) p ∙ inside_no InExpr _ e
 
-        pub close_ok : {m : Token} {at₄ : ℕ} {vs : List ℕ} → expecting bs is_close at₃ ws ≡ ok m at₄ vs → bracketed bs rd n at xs ≡ ok f at₄ vs
+        pub close_ok : {m : Token} {at₄ : ℕ} {vs : List ℕ} → expecting bs Close at₃ ws ≡ ok m at₄ vs → bracketed bs rd n at xs ≡ ok f at₄ vs
         close_ok e = few l ∙ after_ok (closing bs) p ∙ inside_ok InExpr _ e
 
 abbrev pub deep : List ℕ → ℕ → Head → Reader
@@ -103,15 +103,15 @@ module _ (bs : List ℕ) (rd : Reader) (h : Head) (n at : ℕ) (xs : List ℕ) w
   leaf_ok k e = rw e
 
   module _ (k : NumberedOf) (i : h ≡ Numbered k) where
-    pub space_no : {e : ExprFault} → expecting bs is_space at xs ≡ no e → operands bs rd h n at xs ≡ no (InExpr e)
+    pub space_no : {e : ExprFault} → expecting bs Space at xs ≡ no e → operands bs rd h n at xs ≡ no (InExpr e)
     unfolding operands
     space_no e = rw i (inside_no InExpr _ e)
 
-    pub number_no : {m : Token} {at₁ : ℕ} {ys : List ℕ} {e : ExprFault} → expecting bs is_space at xs ≡ ok m at₁ ys → numbering bs at₁ ys ≡ no e → operands bs rd h n at xs ≡ no (InExpr e)
+    pub number_no : {m : Token} {at₁ : ℕ} {ys : List ℕ} {e : ExprFault} → expecting bs Space at xs ≡ ok m at₁ ys → numbering bs at₁ ys ≡ no e → operands bs rd h n at xs ≡ no (InExpr e)
     unfolding operands
     number_no s e = rw i (inside_ok InExpr _ s ∙ inside_no InExpr _ e)
 
-    pub number_ok : {m : Token} {at₁ v at₂ : ℕ} {ys zs : List ℕ} → expecting bs is_space at xs ≡ ok m at₁ ys → numbering bs at₁ ys ≡ ok v at₂ zs → operands bs rd h n at xs ≡ ok (numbered k v) at₂ zs
+    pub number_ok : {m : Token} {at₁ v at₂ : ℕ} {ys zs : List ℕ} → expecting bs Space at xs ≡ ok m at₁ ys → numbering bs at₁ ys ≡ ok v at₂ zs → operands bs rd h n at xs ≡ ok (numbered k v) at₂ zs
     unfolding operands
     number_ok s e = rw i (inside_ok InExpr _ s ∙ inside_ok InExpr _ e)
 

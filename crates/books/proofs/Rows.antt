@@ -5,7 +5,9 @@ use Rattle.std.proofs.lemmas.List.{append-nil, length_push}
 use Rattle.kinds.specs.declared.class.Class.{Class}
 use Rattle.tokens.specs.Out.{Out, ok, no, inside}
 use Rattle.tokens.specs.Spots.{spot}
+use Rattle.tokens.specs.declared.token.Word.TheVariants.{Rule}
 use Rattle.tokens.specs.declared.token.Token.{Token}
+use Rattle.tokens.specs.declared.token.Token.TheVariants.{Open, Close, Space, Feed, Letters}
 use Rattle.grammar.specs.declared.table.Table.{Table}
 use Rattle.grammar.specs.declared.roots.Roots.{Roots}
 use Rattle.grammar.specs.Expr.{Expr, size}
@@ -19,47 +21,46 @@ use Rattle.books.specs.declared.fault.BookFault.{BookFault}
 use Rattle.books.specs.declared.fault.BookFault.TheVariants.{InExpr, TooMany, Unlawful}
 use Rattle.books.specs.declared.head.LineWord.{LineWord}
 use Rattle.books.specs.declared.head.LineWord.TheVariants.{Class as ClassLine, Rule as RuleLine}
-use Rattle.books.specs.Tests.{is_open, is_close, is_space, is_feed, is_rule}
 use Rattle.books.specs.Reading.{expecting, numbering, operand, expression, line_heading, line_start_lem, class_numbers_lem, class_line, class_lines, rule_line, onward, rule_lines}
 use Rattle.books.specs.Steps.{count, Grown, Lined, line_widths, Begun, Ruled}
 use Rattle.books.proofs.Outs.{after_ok, after_no, inside_ok, inside_no}
-use Rattle.books.proofs.Sound.{close_gives, feed_gives, rule_gives}
+use Rattle.books.proofs.Sound.{expecting_gives, rule_gives}
 use Rattle.books.proofs.Grows.{given_at, moved, open_moved, operand_moved}
 
 module _ (bs : List ℕ) (at : ℕ) (xs : List ℕ) where
-  pub start_no : {e : ExprFault} → expecting bs is_open at xs ≡ no e → line_start_lem bs at xs ≡ no e
+  pub start_no : {e : ExprFault} → expecting bs Open at xs ≡ no e → line_start_lem bs at xs ≡ no e
   unfolding line_start_lem
   start_no e = after_no _ e
 
-  pub start_on : {t : Token} {a : ℕ} {ys : List ℕ} → expecting bs is_open at xs ≡ ok t a ys → line_start_lem bs at xs ≡ line_heading bs a ys
+  pub start_on : {t : Token} {a : ℕ} {ys : List ℕ} → expecting bs Open at xs ≡ ok t a ys → line_start_lem bs at xs ≡ line_heading bs a ys
   unfolding line_start_lem
   start_on o = after_ok _ o
 
-  pub first_space_no : {e : ExprFault} → expecting bs is_space at xs ≡ no e → class_numbers_lem bs at xs ≡ no e
+  pub first_space_no : {e : ExprFault} → expecting bs Space at xs ≡ no e → class_numbers_lem bs at xs ≡ no e
   unfolding class_numbers_lem
   first_space_no e = after_no _ e
 
-  module _ {t₁ : Token} {a : ℕ} {ys : List ℕ} (o : expecting bs is_space at xs ≡ ok t₁ a ys) where
+  module _ {t₁ : Token} {a : ℕ} {ys : List ℕ} (o : expecting bs Space at xs ≡ ok t₁ a ys) where
     pub first_no : {e : ExprFault} → numbering bs a ys ≡ no e → class_numbers_lem bs at xs ≡ no e
     unfolding class_numbers_lem
     first_no e = after_ok _ o ∙ after_no _ e
 
     module _ {v b : ℕ} {zs : List ℕ} (p : numbering bs a ys ≡ ok v b zs) where
-      pub second_space_no : {e : ExprFault} → expecting bs is_space b zs ≡ no e → class_numbers_lem bs at xs ≡ no e
+      pub second_space_no : {e : ExprFault} → expecting bs Space b zs ≡ no e → class_numbers_lem bs at xs ≡ no e
       unfolding class_numbers_lem
       second_space_no e = after_ok _ o ∙ after_ok _ p ∙ after_no _ e
 
-      module _ {t₂ : Token} {c : ℕ} {ws : List ℕ} (q : expecting bs is_space b zs ≡ ok t₂ c ws) where
+      module _ {t₂ : Token} {c : ℕ} {ws : List ℕ} (q : expecting bs Space b zs ≡ ok t₂ c ws) where
         pub second_no : {e : ExprFault} → numbering bs c ws ≡ no e → class_numbers_lem bs at xs ≡ no e
         unfolding class_numbers_lem
         second_no e = after_ok _ o ∙ after_ok _ p ∙ after_ok _ q ∙ after_no _ e
 
         module _ {u d : ℕ} {vs : List ℕ} (r : numbering bs c ws ≡ ok u d vs) where
-          pub numbers_close_no : {e : ExprFault} → expecting bs is_close d vs ≡ no e → class_numbers_lem bs at xs ≡ no e
+          pub numbers_close_no : {e : ExprFault} → expecting bs Close d vs ≡ no e → class_numbers_lem bs at xs ≡ no e
           unfolding class_numbers_lem
           numbers_close_no e = after_ok _ o ∙ after_ok _ p ∙ after_ok _ q ∙ after_ok _ r ∙ after_no _ e
 
-          pub numbers_ok : {t₃ : Token} {f : ℕ} {us : List ℕ} → expecting bs is_close d vs ≡ ok t₃ f us → class_numbers_lem bs at xs ≡ ok (record { first = v; second = u }) f us
+          pub numbers_ok : {t₃ : Token} {f : ℕ} {us : List ℕ} → expecting bs Close d vs ≡ ok t₃ f us → class_numbers_lem bs at xs ≡ ok (record { first = v; second = u }) f us
           unfolding class_numbers_lem
           numbers_ok e = after_ok _ o ∙ after_ok _ p ∙ after_ok _ q ∙ after_ok _ r ∙ after_ok _ e
 
@@ -74,11 +75,11 @@ module _ (bs : List ℕ) (lawful : Class → Bool) (at next : ℕ) (xs : List �
     class_unlawful h = inside_ok InExpr _ o ∙ rw h
 
     module _ (h : lawful c ≡ true) where
-      pub class_feed_no : {e : ExprFault} → expecting bs is_feed a ys ≡ no e → class_line bs lawful at next xs ≡ no (InExpr e)
+      pub class_feed_no : {e : ExprFault} → expecting bs Feed a ys ≡ no e → class_line bs lawful at next xs ≡ no (InExpr e)
       unfolding class_line
       class_feed_no e = inside_ok InExpr _ o ∙ rw h (inside_no InExpr _ e)
 
-      pub class_ok : {t : Token} {b : ℕ} {zs : List ℕ} → expecting bs is_feed a ys ≡ ok t b zs → class_line bs lawful at next xs ≡ ok c b zs
+      pub class_ok : {t : Token} {b : ℕ} {zs : List ℕ} → expecting bs Feed a ys ≡ ok t b zs → class_line bs lawful at next xs ≡ ok c b zs
       unfolding class_line
       class_ok e = inside_ok InExpr _ o ∙ rw h (inside_ok InExpr _ e)
 
@@ -115,16 +116,16 @@ module _ (bs : List ℕ) (lawful : Class → Bool) (cs : List Class) (at : ℕ) 
         inside_ok InExpr _ (named o i) ∙ after_ok _ e ∙ ap (λ k. class_lines bs lawful k (cs ++ (c ∷ [])) b zs) q
 
 module _ (bs : List ℕ) (left n at : ℕ) (xs : List ℕ) where
-  pub line_open_no : {e : ExprFault} → expecting bs is_open at xs ≡ no e → rule_line bs left n at xs ≡ no (InExpr e)
+  pub line_open_no : {e : ExprFault} → expecting bs Open at xs ≡ no e → rule_line bs left n at xs ≡ no (InExpr e)
   unfolding rule_line
   line_open_no e = inside_no InExpr _ e
 
-  module _ {t₁ : Token} {a : ℕ} {ys : List ℕ} (o : expecting bs is_open at xs ≡ ok t₁ a ys) where
-    pub line_rule_no : {e : ExprFault} → expecting bs is_rule a ys ≡ no e → rule_line bs left n at xs ≡ no (InExpr e)
+  module _ {t₁ : Token} {a : ℕ} {ys : List ℕ} (o : expecting bs Open at xs ≡ ok t₁ a ys) where
+    pub line_rule_no : {e : ExprFault} → expecting bs (Letters Rule) a ys ≡ no e → rule_line bs left n at xs ≡ no (InExpr e)
     unfolding rule_line
     line_rule_no e = inside_ok InExpr _ o ∙ inside_no InExpr _ e
 
-    module _ {t₂ : Token} {b : ℕ} {zs : List ℕ} (w : expecting bs is_rule a ys ≡ ok t₂ b zs) where
+    module _ {t₂ : Token} {b : ℕ} {zs : List ℕ} (w : expecting bs (Letters Rule) a ys ≡ ok t₂ b zs) where
       pub line_many : left ≡ 0 → rule_line bs left n at xs ≡ no (TooMany (spot bs at))
       unfolding rule_line
       line_many l = inside_ok InExpr _ o ∙ inside_ok InExpr _ w ∙ rw (eq-eqb left 0 l)
@@ -135,16 +136,16 @@ module _ (bs : List ℕ) (left n at : ℕ) (xs : List ℕ) where
         line_expr_no e = inside_ok InExpr _ o ∙ inside_ok InExpr _ w ∙ rw (ne_eqb left 0 (omega arith)) (after_no _ e)
 
         module _ {x : Expr} {c : ℕ} {ws : List ℕ} (p : operand bs (expression bs 64) n b zs ≡ ok x c ws) where
-          pub line_close_no : {e : ExprFault} → expecting bs is_close c ws ≡ no e → rule_line bs left n at xs ≡ no (InExpr e)
+          pub line_close_no : {e : ExprFault} → expecting bs Close c ws ≡ no e → rule_line bs left n at xs ≡ no (InExpr e)
           unfolding rule_line
           line_close_no e = inside_ok InExpr _ o ∙ inside_ok InExpr _ w ∙ rw (ne_eqb left 0 (omega arith)) (after_ok _ p ∙ inside_no InExpr _ e)
 
-          module _ {t₄ : Token} {d : ℕ} {vs : List ℕ} (q : expecting bs is_close c ws ≡ ok t₄ d vs) where
-            pub line_feed_no : {e : ExprFault} → expecting bs is_feed d vs ≡ no e → rule_line bs left n at xs ≡ no (InExpr e)
+          module _ {t₄ : Token} {d : ℕ} {vs : List ℕ} (q : expecting bs Close c ws ≡ ok t₄ d vs) where
+            pub line_feed_no : {e : ExprFault} → expecting bs Feed d vs ≡ no e → rule_line bs left n at xs ≡ no (InExpr e)
             unfolding rule_line
             line_feed_no e = inside_ok InExpr _ o ∙ inside_ok InExpr _ w ∙ rw (ne_eqb left 0 (omega arith)) (after_ok _ p ∙ inside_ok InExpr _ q ∙ inside_no InExpr _ e)
 
-            pub line_ok : {t₅ : Token} {f : ℕ} {us : List ℕ} → expecting bs is_feed d vs ≡ ok t₅ f us → rule_line bs left n at xs ≡ ok x f us
+            pub line_ok : {t₅ : Token} {f : ℕ} {us : List ℕ} → expecting bs Feed d vs ≡ ok t₅ f us → rule_line bs left n at xs ≡ ok x f us
             unfolding rule_line
             line_ok e = inside_ok InExpr _ o ∙ inside_ok InExpr _ w ∙ rw (ne_eqb left 0 (omega arith)) (after_ok _ p ∙ inside_ok InExpr _ q ∙ inside_ok InExpr _ e)
 
@@ -153,13 +154,13 @@ pub pushed : {X : Type 0} (most : ℕ) (xs ys : List X) (x : X) → length xs < 
 pushed most xs ys x h e = e ∙ ap (λ t. cond t (xs ++ (x ∷ [])) xs) (lt-ltb (length xs) most h)
 
 -- a rule line that is read stands in the table
-pub line_lined : (bs : List ℕ) (left at : ℕ) (T T' : Table) → 0 < left → at ≤ length bs → {t₁ t₂ t₃ t₄ : Token} {a b c d f : ℕ} → a ≤ length bs → expecting bs is_open at (drop at bs) ≡ ok t₁ a (drop a bs) → b ≤ length bs → expecting bs is_rule a (drop a bs) ≡ ok t₂ b (drop b bs) → Grown (operand bs (expression bs 64) (count T) b (drop b bs)) bs (b + 1) T T' c → d ≤ length bs → expecting bs is_close c (drop c bs) ≡ ok t₃ d (drop d bs) → f ≤ length bs → expecting bs is_feed d (drop d bs) ≡ ok t₄ f (drop f bs) → Lined left bs at T T' f
+pub line_lined : (bs : List ℕ) (left at : ℕ) (T T' : Table) → 0 < left → at ≤ length bs → {t₁ t₂ t₃ t₄ : Token} {a b c d f : ℕ} → a ≤ length bs → expecting bs Open at (drop at bs) ≡ ok t₁ a (drop a bs) → b ≤ length bs → expecting bs (Letters Rule) a (drop a bs) ≡ ok t₂ b (drop b bs) → Grown (operand bs (expression bs 64) (count T) b (drop b bs)) bs (b + 1) T T' c → d ≤ length bs → expecting bs Close c (drop c bs) ≡ ok t₃ d (drop d bs) → f ≤ length bs → expecting bs Feed d (drop d bs) ≡ ok t₄ f (drop f bs) → Lined left bs at T T' f
 line_lined bs left at T T' l h {a = a} {b = b} {c = c} {d = d} {f = f} ha o hb w g hd q hf r =
     let ea : a ≡ at + 1 = open_moved bs at a h ha o in
-    let eb : b ≡ a + 4 = moved bs (codes "rule") a b ha hb (given_at (rule_gives bs a (drop a bs)) (ap (inside InExpr) w)) in
+    let eb : b ≡ a + 4 = moved bs (codes "rule") a b ha hb (given_at (rule_gives bs a (drop a bs)) w) in
     let ec : c ≡ b + 1 + width g.tree = operand_moved bs b c hb g.within 64 (count T) g.says in
-    let ed : d ≡ c + 1 = moved bs (41 ∷ []) c d g.within hd (given_at (close_gives bs c (drop c bs)) (ap (inside InExpr) q)) in
-    let ef : f ≡ d + 1 = moved bs (10 ∷ []) d f hd hf (given_at (feed_gives bs d (drop d bs)) (ap (inside InExpr) r)) in
+    let ed : d ≡ c + 1 = moved bs (41 ∷ []) c d g.within hd (given_at (expecting_gives bs Close c (drop c bs)) q) in
+    let ef : f ≡ d + 1 = moved bs (10 ∷ []) d f hd hf (given_at (expecting_gives bs Feed d (drop d bs)) r) in
     let place : b + 1 ≡ past at (codes "rule") = omega (arith, ea, eb) in
     record {
       tree = g.tree;

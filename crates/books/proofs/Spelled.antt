@@ -5,6 +5,7 @@ use Rattle.std.proofs.lemmas.List.{append-nil}
 use Rattle.kinds.specs.declared.class.Class.{Class}
 use Rattle.tokens.specs.Out.{Out, ok, no, after, inside}
 use Rattle.tokens.specs.Spots.{spot}
+use Rattle.tokens.specs.declared.token.Token.TheVariants.{Open, Close, Space, Feed}
 use Rattle.grammar.specs.Expr.{Expr, Grammar, size, nesting}
 use Rattle.grammar.specs.Spelling.{spell, spell_class, spell_rule, spell_classes, spell_rules, spelling}
 use Rattle.grammar.specs.Allowed.{NumbersFit, ClassFits, Each, sizes, Within}
@@ -14,14 +15,10 @@ use Rattle.books.specs.declared.head.LineWord.{LineWord}
 use Rattle.books.specs.declared.head.LineWord.TheVariants.{Class as ClassLine, Rule as RuleLine}
 use Rattle.books.specs.Reading.{expression, line_start_lem, class_numbers_lem, class_line, by_word, class_lines, rule_line, onward, rule_lines, reading}
 use Rattle.books.proofs.Lexed.{Gives, given, none, after_gives, inside_gives, gives_weaker}
-use Rattle.books.proofs.Sound.{open_gives, close_gives, space_gives, number_gives, feed_gives, rule_gives, line_word, line_word_gives, operand_sound, expression_sound}
+use Rattle.books.proofs.Sound.{expecting_gives, number_gives, rule_gives, line_word, line_word_gives, operand_sound, expression_sound}
 use Rattle.books.proofs.Complete.{Reads, open_there, close_there, space_there, feed_there, rule_there, class_line_there, rule_line_there, number_there, operand_there, expression_complete}
 use Rattle.books.proofs.Outs.{after_ok}
 use Rattle.books.proofs.Rows.{start_on, numbers_ok, class_ok, classes_end, classes_on, line_ok, rules_on}
-
-outside : {E F A : Type 0} (g : E → F) {P : A → ℕ → List ℕ → Type 0} (o : Out E A) → Gives P (inside g o) → Gives P o
-outside g (ok a at xs) (given h) = given h
-outside g (no e) none = none
 
 -- the numbers of a class line, its bracket, and then ys
 abbrev class_tail : Class → List ℕ → List ℕ
@@ -32,17 +29,17 @@ module _ (bs : List ℕ) (lawful : Class → Bool) where
   unfolding class_numbers_lem
   numbers_sound at xs =
       let P : Class → ℕ → List ℕ → Type 0 = λ c a ys. (xs ≡ class_tail c ys) × ClassFits c in
-      after_gives P _ (outside InExpr _ (space_gives bs at xs)) (λ t a ys o.
-      after_gives P _ (outside InExpr _ (number_gives bs a ys)) (λ v b zs p.
-      after_gives P _ (outside InExpr _ (space_gives bs b zs)) (λ t c ws q.
-      after_gives P _ (outside InExpr _ (number_gives bs c ws)) (λ u d vs r.
-      after_gives P _ (outside InExpr _ (close_gives bs d vs)) (λ t f us s.
+      after_gives P _ (expecting_gives bs Space at xs) (λ t a ys o.
+      after_gives P _ (number_gives bs a ys) (λ v b zs p.
+      after_gives P _ (expecting_gives bs Space b zs) (λ t c ws q.
+      after_gives P _ (number_gives bs c ws) (λ u d vs r.
+      after_gives P _ (expecting_gives bs Close d vs) (λ t f us s.
       given (o ∙ ap (λ k. 32 ∷ k) (p.0 ∙ ap (λ k. decimal v ++ k) (q ∙ ap (λ k. 32 ∷ k) (r.0 ∙ ap (λ k. decimal u ++ k) s))), (p.1, r.1)))))))
 
   start_sound : (at : ℕ) (xs : List ℕ) → Gives (λ w a ys. xs ≡ 40 ∷ (line_word w ++ ys)) (line_start_lem bs at xs)
   unfolding line_start_lem
   start_sound at xs =
-      after_gives (λ w a ys. xs ≡ 40 ∷ (line_word w ++ ys)) _ (outside InExpr _ (open_gives bs at xs)) (λ t a ys o.
+      after_gives (λ w a ys. xs ≡ 40 ∷ (line_word w ++ ys)) _ (expecting_gives bs Open at xs) (λ t a ys o.
       gives_weaker (λ w b zs. xs ≡ 40 ∷ (line_word w ++ zs)) (line_word_gives bs a ys) (λ w b zs e. o ∙ ap (λ k. 40 ∷ k) e))
 
   class_sound : (at next : ℕ) (xs : List ℕ) → Gives (λ c a ys. (xs ≡ class_tail c (10 ∷ ys)) × (ClassFits c × (lawful c ≡ true))) (class_line bs lawful at next xs)
@@ -51,7 +48,7 @@ module _ (bs : List ℕ) (lawful : Class → Bool) where
       let P : Class → ℕ → List ℕ → Type 0 = λ c a ys. (xs ≡ class_tail c (10 ∷ ys)) × (ClassFits c × (lawful c ≡ true)) in
       after_gives P _ (inside_gives InExpr (numbers_sound next xs)) (λ c a ys p.
       cond_both (lawful c) _ (no (Unlawful (spot bs at))) (Gives P)
-      (λ l. after_gives P _ (feed_gives bs a ys) (λ t b zs q. given (p.0 ∙ ap (λ k. class_tail c k) q, (p.1, l))))
+      (λ l. after_gives P _ (inside_gives InExpr (expecting_gives bs Feed a ys)) (λ t b zs q. given (p.0 ∙ ap (λ k. class_tail c k) q, (p.1, l))))
       (λ _. none))
 
   -- the class lines that were read after cs
@@ -106,12 +103,12 @@ module _ (bs : List ℕ) where
   unfolding rule_line
   line_sound left n at xs =
       let P : Expr → ℕ → List ℕ → Type 0 = λ e a ys. SpelledLine left n xs e ys in
-      after_gives P _ (open_gives bs at xs) (λ t a ys o.
-      after_gives P _ (rule_gives bs a ys) (λ t b zs w.
+      after_gives P _ (inside_gives InExpr (expecting_gives bs Open at xs)) (λ t a ys o.
+      after_gives P _ (inside_gives InExpr (rule_gives bs a ys)) (λ t b zs w.
       cond_both (eqb left 0) (no (TooMany (spot bs at))) _ (Gives P) (λ _. none) (λ c.
       after_gives P _ (operand_sound bs 64 (expression bs 64) (expression_sound bs 64) n b zs) (λ e d ws p.
-      after_gives P _ (close_gives bs d ws) (λ t i vs q.
-      after_gives P _ (feed_gives bs i vs) (λ t j us r.
+      after_gives P _ (inside_gives InExpr (expecting_gives bs Close d ws)) (λ t i vs q.
+      after_gives P _ (inside_gives InExpr (expecting_gives bs Feed i vs)) (λ t j us r.
       let z = eqb-false left 0 c in
       given (record { bytes = o ∙ ap (λ k. 40 ∷ k) (w ∙ ap (λ k. codes "rule" ++ k) (p.bytes ∙ ap (λ k. 32 ∷ spell e k) (q ∙ ap (λ k. 41 ∷ k) r))); positive = omega arith; deep = p.deep; few = p.few; fit = p.fit })))))))
 

@@ -6,9 +6,9 @@ ghost use Rattle.books.specs.Steps.{count, Grown, Filled};
 
 use crate::fault::{BookFault, ExprFault};
 use crate::head::{Head, Leaf, Numbered, One, Two};
-use crate::steps::{close, head, number, open, space};
+use crate::steps::{expect, head, number};
 use grammar::{Operator, Table};
-use tokens::spot_at;
+use tokens::{Token, spot_at};
 
 // Reads an expression nested at most `left` deep into the table, and answers the place after it.
 #[cycle(read_expr_read_operand_read_operands)]
@@ -23,7 +23,7 @@ pub(crate) fn read_expr(
         (λ next. Grown (expression bytes.now left (count table.old) at (drop at bytes.now)) bytes.now at table.old table.new next)
         (λ e. expression bytes.now left (count table.old) at (drop at bytes.now) ≡ no e) }
 {
-    let word = open(bytes, at)?;
+    let word = expect(bytes, at, Token::Open)?;
     let (head, rest) = head(bytes, word)?;
     let Some(slot) = table.reserve() else {
         return Err(BookFault::TooMany(spot_at(bytes, at)));
@@ -32,7 +32,7 @@ pub(crate) fn read_expr(
         return Err(BookFault::InExpr(ExprFault::TooDeep(spot_at(bytes, at))));
     }
     let (operator, last) = read_operands(bytes, rest, left - 1, head, table)?;
-    let next = close(bytes, last)?;
+    let next = expect(bytes, last, Token::Close)?;
     table.fill(slot, operator, at as u16);
     Ok(next)
 }
@@ -54,7 +54,7 @@ fn read_operands(
     match head {
         Head::Leaf(leaf) => Ok((leaf_operator(leaf), at)),
         Head::Numbered(numbered) => {
-            let digits = space(bytes, at)?;
+            let digits = expect(bytes, at, Token::Space)?;
             let (value, next) = number(bytes, digits)?;
             Ok((numbered_operator(numbered, value), next))
         }
@@ -83,7 +83,7 @@ pub(crate) fn read_operand(
         (λ next. Grown (operand bytes.now (expression bytes.now left) (count table.old) at (drop at bytes.now)) bytes.now (at + 1) table.old table.new next)
         (λ e. operand bytes.now (expression bytes.now left) (count table.old) at (drop at bytes.now) ≡ no e) }
 {
-    let start = space(bytes, at)?;
+    let start = expect(bytes, at, Token::Space)?;
     read_expr(bytes, start, left, table)
 }
 

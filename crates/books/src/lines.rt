@@ -7,10 +7,10 @@ ghost use Rattle.books.specs.Steps.{Stepped, count, Lined, Ruled};
 use crate::exprs::read_operand;
 use crate::fault::{BookFault, ExprFault};
 use crate::head::LineWord;
-use crate::steps::{close, feed, line_word, number, open, rule, space};
+use crate::steps::{expect, line_word, number};
 use grammar::{Classes, MOST_CLASSES, MOST_RULES, Roots, Table};
 use kinds::{Class, Kind};
-use tokens::spot_at;
+use tokens::{Token, Word, spot_at};
 
 /// How deep the expressions of a book may be nested.
 pub const MOST_NESTED: u8 = 64;
@@ -22,7 +22,7 @@ fn line_start(bytes: &[u8], at: usize) -> Result<(LineWord, usize), ExprFault>
         (λ p. Stepped (line_start_lem bytes.now at (drop at bytes.now)) bytes.now p.0 p.1)
         (λ e. line_start_lem bytes.now at (drop at bytes.now) ≡ no e) }
 {
-    let word = open(bytes, at)?;
+    let word = expect(bytes, at, Token::Open)?;
     line_word(bytes, word)
 }
 
@@ -33,11 +33,11 @@ fn class_numbers(bytes: &[u8], at: usize) -> Result<(Class, usize), ExprFault>
         (λ p. Stepped (class_numbers_lem bytes.now at (drop at bytes.now)) bytes.now p.0 p.1)
         (λ e. class_numbers_lem bytes.now at (drop at bytes.now) ≡ no e) }
 {
-    let digits = space(bytes, at)?;
+    let digits = expect(bytes, at, Token::Space)?;
     let (first, middle) = number(bytes, digits)?;
-    let digits = space(bytes, middle)?;
+    let digits = expect(bytes, middle, Token::Space)?;
     let (second, last) = number(bytes, digits)?;
-    let end = close(bytes, last)?;
+    let end = expect(bytes, last, Token::Close)?;
     Ok((Class { first, second }, end))
 }
 
@@ -57,7 +57,7 @@ fn read_class<K: Kind>(
     if !kind.is_lawful(class) {
         return Err(BookFault::Unlawful(spot_at(bytes, at)));
     }
-    let end = feed(bytes, last)?;
+    let end = expect(bytes, last, Token::Feed)?;
     Ok((class, end))
 }
 
@@ -92,14 +92,14 @@ fn read_rule(bytes: &[u8], at: usize, left: u8, table: &mut Table) -> Result<usi
         (λ next. Lined left bytes.now at table.old table.new next)
         (λ e. rule_line bytes.now left (count table.old) at (drop at bytes.now) ≡ no e) }
 {
-    let word = open(bytes, at)?;
-    let start = rule(bytes, word)?;
+    let word = expect(bytes, at, Token::Open)?;
+    let start = expect(bytes, word, Token::Letters(Word::Rule))?;
     if left == 0 {
         return Err(BookFault::TooMany(spot_at(bytes, at)));
     }
     let last = read_operand(bytes, start, MOST_NESTED, table)?;
-    let end = close(bytes, last)?;
-    let next = feed(bytes, end)?;
+    let end = expect(bytes, last, Token::Close)?;
+    let next = expect(bytes, end, Token::Feed)?;
     Ok(next)
 }
 

@@ -1,8 +1,5 @@
 ghost use Rattle.std.specs.Prelude.{◌≡◌, ℕ, ◌+◌, ◌<◌, ◌≤◌, length, drop, MatchResult};
 ghost use Rattle.tokens.specs.Out.{ok, no};
-ghost use Rattle.tokens.specs.declared.token.Token.TheVariants.{Open, Close, Space, Feed, Letters};
-ghost use Rattle.tokens.specs.declared.token.Word.TheVariants.{Rule};
-ghost use Rattle.books.specs.Tests.{is_open, is_close, is_space, is_feed, is_rule};
 ghost use Rattle.books.specs.Reading.{expecting, numbering, heading, line_heading};
 ghost use Rattle.books.specs.Steps.{Stepped};
 
@@ -10,72 +7,23 @@ use crate::fault::ExprFault;
 use crate::head::{Head, Leaf, LineWord, Numbered, One, Two};
 use tokens::{Token, Word, next_token, spot_at};
 
-// The place after an opening bracket.
-pub(crate) fn open(bytes: &[u8], at: usize) -> Result<usize, ExprFault>
+// The place after this token, which has to stand at `at`.
+#[tactic(auto, unfolding(crate::specs::Reading::expecting))]
+pub(crate) fn expect(bytes: &[u8], at: usize, token: Token) -> Result<usize, ExprFault>
     requires { at ≤ length bytes.now }
     ensures { MatchResult result
-        (λ next. Stepped (expecting bytes.now is_open at (drop at bytes.now)) bytes.now Open next)
-        (λ e. expecting bytes.now is_open at (drop at bytes.now) ≡ no e) }
+        (λ next. Stepped (expecting bytes.now token at (drop at bytes.now)) bytes.now token next)
+        (λ e. expecting bytes.now token at (drop at bytes.now) ≡ no e) }
 {
-    match next_token(bytes, at)? {
-        (Token::Open, next) => Ok(next),
-        _ => Err(ExprFault::Unwanted(spot_at(bytes, at))),
+    let (found, next) = next_token(bytes, at)?;
+    if found != token {
+        return Err(ExprFault::Unwanted(spot_at(bytes, at)));
     }
-}
-
-// The place after a closing bracket.
-pub(crate) fn close(bytes: &[u8], at: usize) -> Result<usize, ExprFault>
-    requires { at ≤ length bytes.now }
-    ensures { MatchResult result
-        (λ next. Stepped (expecting bytes.now is_close at (drop at bytes.now)) bytes.now Close next)
-        (λ e. expecting bytes.now is_close at (drop at bytes.now) ≡ no e) }
-{
-    match next_token(bytes, at)? {
-        (Token::Close, next) => Ok(next),
-        _ => Err(ExprFault::Unwanted(spot_at(bytes, at))),
-    }
-}
-
-// The place after a space.
-pub(crate) fn space(bytes: &[u8], at: usize) -> Result<usize, ExprFault>
-    requires { at ≤ length bytes.now }
-    ensures { MatchResult result
-        (λ next. Stepped (expecting bytes.now is_space at (drop at bytes.now)) bytes.now Space next)
-        (λ e. expecting bytes.now is_space at (drop at bytes.now) ≡ no e) }
-{
-    match next_token(bytes, at)? {
-        (Token::Space, next) => Ok(next),
-        _ => Err(ExprFault::Unwanted(spot_at(bytes, at))),
-    }
-}
-
-// The place after a line feed.
-pub(crate) fn feed(bytes: &[u8], at: usize) -> Result<usize, ExprFault>
-    requires { at ≤ length bytes.now }
-    ensures { MatchResult result
-        (λ next. Stepped (expecting bytes.now is_feed at (drop at bytes.now)) bytes.now Feed next)
-        (λ e. expecting bytes.now is_feed at (drop at bytes.now) ≡ no e) }
-{
-    match next_token(bytes, at)? {
-        (Token::Feed, next) => Ok(next),
-        _ => Err(ExprFault::Unwanted(spot_at(bytes, at))),
-    }
-}
-
-// The place after the word `rule`.
-pub(crate) fn rule(bytes: &[u8], at: usize) -> Result<usize, ExprFault>
-    requires { at ≤ length bytes.now }
-    ensures { MatchResult result
-        (λ next. Stepped (expecting bytes.now is_rule at (drop at bytes.now)) bytes.now (Letters Rule) next)
-        (λ e. expecting bytes.now is_rule at (drop at bytes.now) ≡ no e) }
-{
-    match next_token(bytes, at)? {
-        (Token::Letters(Word::Rule), next) => Ok(next),
-        _ => Err(ExprFault::Unwanted(spot_at(bytes, at))),
-    }
+    Ok(next)
 }
 
 // A number, and the place after it.
+#[tactic(auto, unfolding(crate::specs::Reading::numbering))]
 pub(crate) fn number(bytes: &[u8], at: usize) -> Result<(u32, usize), ExprFault>
     requires { at ≤ length bytes.now }
     ensures { MatchResult result
@@ -89,6 +37,7 @@ pub(crate) fn number(bytes: &[u8], at: usize) -> Result<(u32, usize), ExprFault>
 }
 
 // The word of an expression, and the place after it.
+#[tactic(auto, unfolding(crate::specs::Reading::heading))]
 pub(crate) fn head(bytes: &[u8], at: usize) -> Result<(Head, usize), ExprFault>
     requires { at ≤ length bytes.now }
     ensures { MatchResult result
@@ -109,6 +58,7 @@ pub(crate) fn head(bytes: &[u8], at: usize) -> Result<(Head, usize), ExprFault>
 }
 
 // The word of a line, past its opening bracket, and the place after it.
+#[tactic(auto, unfolding(crate::specs::Reading::line_heading))]
 pub(crate) fn line_word(bytes: &[u8], at: usize) -> Result<(LineWord, usize), ExprFault>
     requires { at ≤ length bytes.now }
     ensures { MatchResult result

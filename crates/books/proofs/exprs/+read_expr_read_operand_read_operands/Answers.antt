@@ -24,8 +24,8 @@ read_expr-returns-in_err-operator t c =
     let few = (reserved _ _ (sym c.in-Some.ensures.slot)).0 in
     rw (p.1, p.2) (grown_operands_no c.args.bytes.now c.args.left c.args.at c.args.table.now c.reserve.new.self c.read_operands.new.table (omega arith) few (roomed _ _ _ _ few c.in-Some.ensures.laid) c.in_ok-word.ensures.0 c.in_ok-head.ensures.0 c.in_err-operator.ensures)
 
-pub read_expr-close-requires : goal.read_expr-close-requires
-read_expr-close-requires t c =
+pub read_expr-expect-requires-2 : goal.read_expr-expect-requires-2
+read_expr-expect-requires-2 t c =
     let word = c.in_ok-word.ensures in
     let rest = c.in_ok-head.ensures in
     (c.in_ok-operator.ensures c.args.at (head_place c.args.bytes.now _ _ _ c.requires.0 word.1 rest.1 word.0 rest.0)).within
