@@ -1,11 +1,11 @@
 ghost use Rattle.std.specs.Prelude.{◌≡◌, ℕ, ◌+◌, ◌<◌, ◌≤◌, length, drop, MatchResult};
 ghost use Rattle.tokens.specs.Out.{ok, no};
-ghost use Rattle.books.specs.Heads.{head_word, leaf_op, numbered_op, one_op, two_op};
+ghost use Rattle.books.specs.Heads.{head_word};
 ghost use Rattle.books.specs.Reading.{operand, operands, expression};
 ghost use Rattle.books.specs.Steps.{count, Grown, Filled};
 
 use crate::fault::{BookFault, ExprFault};
-use crate::head::{Head, Leaf, Numbered, One, Two};
+use crate::head::Head;
 use crate::steps::{expect, head, number};
 use grammar::{Operator, Table};
 use tokens::{Token, spot_at};
@@ -52,20 +52,20 @@ fn read_operands(
         (λ e. operands bytes.now (expression bytes.now left) head (count table.old) at (drop at bytes.now) ≡ no e) }
 {
     match head {
-        Head::Leaf(leaf) => Ok((leaf_operator(leaf), at)),
+        Head::Leaf(leaf) => Ok((Operator::from(leaf), at)),
         Head::Numbered(numbered) => {
             let digits = expect(bytes, at, Token::Space)?;
             let (value, next) = number(bytes, digits)?;
-            Ok((numbered_operator(numbered, value), next))
+            Ok((numbered.operator(value), next))
         }
         Head::One(one) => {
             let next = read_operand(bytes, at, left, table)?;
-            Ok((one_operator(one), next))
+            Ok((Operator::from(one), next))
         }
         Head::Two(two) => {
             let middle = read_operand(bytes, at, left, table)?;
             let next = read_operand(bytes, middle, left, table)?;
-            Ok((two_operator(two), next))
+            Ok((Operator::from(two), next))
         }
     }
 }
@@ -85,40 +85,4 @@ pub(crate) fn read_operand(
 {
     let start = expect(bytes, at, Token::Space)?;
     read_expr(bytes, start, left, table)
-}
-
-fn leaf_operator(leaf: Leaf) -> Operator
-    ensures { result ≡ leaf_op leaf }
-{
-    match leaf {
-        Leaf::Empty => Operator::Empty,
-        Leaf::Any => Operator::Any,
-    }
-}
-
-fn numbered_operator(numbered: Numbered, value: u32) -> Operator
-    ensures { result ≡ numbered_op numbered value }
-{
-    match numbered {
-        Numbered::Term => Operator::Term(value),
-        Numbered::Call => Operator::Call(value),
-    }
-}
-
-fn one_operator(one: One) -> Operator
-    ensures { result ≡ one_op one }
-{
-    match one {
-        One::Star => Operator::Star,
-        One::Not => Operator::Not,
-    }
-}
-
-fn two_operator(two: Two) -> Operator
-    ensures { result ≡ two_op two }
-{
-    match two {
-        Two::Seq => Operator::Seq,
-        Two::Alt => Operator::Alt,
-    }
 }

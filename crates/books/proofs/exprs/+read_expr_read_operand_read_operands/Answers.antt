@@ -83,16 +83,16 @@ read_operands-returns-in_err-next-in-Two t c =
     rw (p.1, p.2) (filled_second c.args.bytes.now _ _ _ _ _ c.in-Two.is _ c.in_ok-middle-in-Two.ensures c.in_err-next-in-Two.ensures)
 
 pub read_operands-returns-in-Leaf : goal.read_operands-returns-in-Leaf
-read_operands-returns-in-Leaf t c = λ place here. filled_leaf _ _ _ _ _ place here c.requires.0 _ c.in-Leaf.is _ c.leaf_operator.ensures
+read_operands-returns-in-Leaf t c = λ place here. filled_leaf _ _ _ _ _ place here c.requires.0 _ c.in-Leaf.is _ c.from.ensures
 
 pub read_operands-returns-in_ok-value-in-Numbered : goal.read_operands-returns-in_ok-value-in-Numbered
 read_operands-returns-in_ok-value-in-Numbered t c =
-    λ place here. filled_number _ _ _ _ _ place here c.requires.0 _ c.in-Numbered.is _ c.numbered_operator.ensures c.in_ok-digits-in-Numbered.ensures.0 c.in_ok-value-in-Numbered.ensures.0 c.in_ok-value-in-Numbered.ensures.1
+    λ place here. filled_number _ _ _ _ _ place here c.requires.0 _ c.in-Numbered.is _ c.operator.ensures c.in_ok-digits-in-Numbered.ensures.0 c.in_ok-value-in-Numbered.ensures.0 c.in_ok-value-in-Numbered.ensures.1
 
 pub read_operands-returns-in_ok-next-in-One : goal.read_operands-returns-in_ok-next-in-One
 read_operands-returns-in_ok-next-in-One t c =
-    λ place here. filled_one _ _ _ _ _ place here c.requires.0 _ c.in-One.is _ c.one_operator.ensures _ c.in_ok-next-in-One.ensures
+    λ place here. filled_one _ _ _ _ _ place here c.requires.0 _ c.in-One.is _ c.from-in-One.ensures _ c.in_ok-next-in-One.ensures
 
 pub read_operands-returns-in_ok-next-in-Two : goal.read_operands-returns-in_ok-next-in-Two
 read_operands-returns-in_ok-next-in-Two t c =
-    λ place here. filled_two _ _ _ _ _ place here c.requires.0 _ c.in-Two.is _ c.in_ok-middle-in-Two.ensures _ c.two_operator.ensures _ c.in_ok-next-in-Two.ensures
+    λ place here. filled_two _ _ _ _ _ place here c.requires.0 _ c.in-Two.is _ c.in_ok-middle-in-Two.ensures _ c.from-in-Two.ensures _ c.in_ok-next-in-Two.ensures
