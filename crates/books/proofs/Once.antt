@@ -20,7 +20,7 @@ use Rattle.books.specs.declared.head.Two.TheVariants.{Seq, Alt}
 use Rattle.books.specs.declared.head.Head.{Head}
 use Rattle.books.specs.declared.head.Head.TheVariants.{Leaf, Numbered, One, Two}
 use Rattle.books.specs.Heads.{leaf, numbered, one, two, leaf_word, numbered_word, one_word, two_word}
-use Rattle.books.specs.Reading.{numbering, heading, operand, operands, bracketed, Reader}
+use Rattle.books.specs.Reading.{numbering, heading, operand, operands, bracketed, ExprReader}
 use Rattle.books.specs.Verdict.{Writable}
 use Rattle.books.proofs.Outs.{operand_ok, leaf_ok, number_ok, one_ok, two_ok, close_ok}
 use Rattle.books.proofs.Complete.{Reads, open_there, close_there, space_there, leaf_there, numbered_there, one_there, two_there, number_there}
@@ -39,7 +39,7 @@ number_once v w x r s b m n e =
     (p.0, ap (drop 1) p.1)
 
 -- An expression nested at most l deep, however many expressions it is made of.
-unfoldable uncounted : ℕ → Reader
+unfoldable uncounted : ℕ → ExprReader
 uncounted zero n at xs = no (InExpr (TooDeep (spot [] at)))
 uncounted (suc l) n at xs = bracketed [] (operands [] (uncounted l)) 0 at xs
 

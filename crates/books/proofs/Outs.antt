@@ -17,7 +17,7 @@ use Rattle.books.specs.declared.head.Two.{Two as TwoOf}
 use Rattle.books.specs.declared.head.Head.{Head}
 use Rattle.books.specs.declared.head.Head.TheVariants.{Leaf, Numbered, One, Two}
 use Rattle.books.specs.Heads.{leaf, numbered, one, two}
-use Rattle.books.specs.Reading.{expecting, numbering, heading, operand, operands, bracketed, expression, Reader}
+use Rattle.books.specs.Reading.{expecting, numbering, heading, operand, operands, bracketed, expression, ExprReader}
 
 -- one reader after another
 module _ {E A B : Type 0} (f : A → ℕ → List ℕ → Out E B) where
@@ -34,7 +34,7 @@ module _ {E F A B : Type 0} (g : E → F) (f : A → ℕ → List ℕ → Out F 
   pub inside_no : {o : Out E A} {e : E} → o ≡ no e → after (inside g o) f ≡ no (g e)
   inside_no e = ap (λ o. after (inside g o) f) e
 
-module _ (bs : List ℕ) (rd : Reader) (n at : ℕ) (xs : List ℕ) where
+module _ (bs : List ℕ) (rd : ExprReader) (n at : ℕ) (xs : List ℕ) where
   pub operand_ok : {m : Token} {at₁ : ℕ} {ys : List ℕ} → expecting bs Space at xs ≡ ok m at₁ ys → operand bs rd n at xs ≡ rd n at₁ ys
   unfolding operand
   operand_ok e = inside_ok InExpr _ e
@@ -46,7 +46,7 @@ module _ (bs : List ℕ) (rd : Reader) (n at : ℕ) (xs : List ℕ) where
 abbrev closing : List ℕ → Expr → ℕ → List ℕ → Out BookFault Expr
 closing bs f at ws = after (inside InExpr (expecting bs Close at ws)) (λ m at₄ vs. ok f at₄ vs)
 
-module _ (bs : List ℕ) (rd : Head → Reader) (n at : ℕ) (xs : List ℕ) where
+module _ (bs : List ℕ) (rd : Head → ExprReader) (n at : ℕ) (xs : List ℕ) where
   pub open_no : {e : ExprFault} → expecting bs Open at xs ≡ no e → bracketed bs rd n at xs ≡ no (InExpr e)
   unfolding bracketed
   open_no e = inside_no InExpr _ e
@@ -75,10 +75,10 @@ module _ (bs : List ℕ) (rd : Head → Reader) (n at : ℕ) (xs : List ℕ) whe
         pub close_ok : {m : Token} {at₄ : ℕ} {vs : List ℕ} → expecting bs Close at₃ ws ≡ ok m at₄ vs → bracketed bs rd n at xs ≡ ok f at₄ vs
         close_ok e = few l ∙ after_ok (closing bs) p ∙ inside_ok InExpr _ e
 
-abbrev pub deep : List ℕ → ℕ → Head → Reader
+abbrev pub deep : List ℕ → ℕ → Head → ExprReader
 deep bs at h m at₂ zs = no (InExpr (TooDeep (spot bs at)))
 
-abbrev pub inner : List ℕ → ℕ → Head → Reader
+abbrev pub inner : List ℕ → ℕ → Head → ExprReader
 inner bs l h m at₂ zs = operands bs (expression bs l) h (m + 1) at₂ zs
 
 pub expression_none : (bs : List ℕ) (l n at : ℕ) (xs : List ℕ) → l ≡ 0 → expression bs l n at xs ≡ bracketed bs (deep bs at) n at xs
@@ -91,13 +91,13 @@ expression_some bs zero n at xs h = absurd (omega arith)
 expression_some bs (suc l) n at xs h = let e : suc l - 1 ≡ l = omega arith in rw e
 
 -- a reading that holds for both is the reading
-pub expression_both : (bs : List ℕ) (l n at : ℕ) (xs : List ℕ) (o : Out BookFault Expr) → ((rd : Head → Reader) → bracketed bs rd n at xs ≡ o) → expression bs l n at xs ≡ o
+pub expression_both : (bs : List ℕ) (l n at : ℕ) (xs : List ℕ) (o : Out BookFault Expr) → ((rd : Head → ExprReader) → bracketed bs rd n at xs ≡ o) → expression bs l n at xs ≡ o
 unfolding expression
 expression_both bs zero n at xs o h = h _
 expression_both bs (suc l) n at xs o h = h _
 
 -- what comes after the word
-module _ (bs : List ℕ) (rd : Reader) (h : Head) (n at : ℕ) (xs : List ℕ) where
+module _ (bs : List ℕ) (rd : ExprReader) (h : Head) (n at : ℕ) (xs : List ℕ) where
   pub leaf_ok : (k : LeafOf) → h ≡ Leaf k → operands bs rd h n at xs ≡ ok (leaf k) at xs
   unfolding operands
   leaf_ok k e = rw e

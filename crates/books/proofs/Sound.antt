@@ -17,7 +17,7 @@ use Rattle.books.specs.declared.head.Head.{Head}
 use Rattle.books.specs.declared.head.Head.TheVariants.{Leaf, Numbered, One, Two}
 use Rattle.books.specs.declared.head.LineWord.{LineWord}
 use Rattle.books.specs.declared.head.LineWord.TheVariants.{Class as ClassLine, Rule as RuleLine}
-use Rattle.books.specs.Reading.{same_token, wanting, expecting, valued, numbering, head_of, headed, heading, operand, operands, bracketed, expression, Reader, line_word_of, line_headed, line_heading}
+use Rattle.books.specs.Reading.{same_token, wanting, expecting, valued, numbering, head_of, headed, heading, operand, operands, bracketed, expression, ExprReader, line_word_of, line_headed, line_heading}
 use Rattle.books.proofs.Lexed.{Gives, given, none, after_gives, inside_gives, gives_weaker, Worded, Lexed, lexing_gives}
 use Rattle.books.specs.Heads.{leaf_word, numbered_word, one_word, two_word, head_word}
 use Rattle.books.proofs.Heads.{spell_leaf, size_leaf, nesting_leaf, fit_leaf, spell_numbered, size_numbered, nesting_numbered, fit_numbered, spell_one, size_one, nesting_one, fit_one, spell_two, size_two, nesting_two, fit_two}
@@ -109,17 +109,17 @@ pub record Completed (l n : ℕ) (h : Head) (xs : List ℕ) (e : Expr) (ys : Lis
   pub fit : NumbersFit e
 
 -- A reader that reads only what is spelled.
-abbrev pub Sound : ℕ → Reader → Type 0
+abbrev pub Sound : ℕ → ExprReader → Type 0
 Sound l rd = (n at : ℕ) (xs : List ℕ) → Gives (λ e a ys. Spelled l n xs e ys) (rd n at xs)
 
 module _ (bs : List ℕ) where
-  pub operand_sound : (l : ℕ) (rd : Reader) → Sound l rd → (n at : ℕ) (xs : List ℕ) → Gives (λ e a ys. Spaced l n xs e ys) (operand bs rd n at xs)
+  pub operand_sound : (l : ℕ) (rd : ExprReader) → Sound l rd → (n at : ℕ) (xs : List ℕ) → Gives (λ e a ys. Spaced l n xs e ys) (operand bs rd n at xs)
   unfolding operand
   operand_sound l rd h n at xs =
       after_gives (λ e a ys. Spaced l n xs e ys) _ (inside_gives InExpr (expecting_gives bs Space at xs)) (λ t a ys q.
       gives_weaker (λ e a zs. Spaced l n xs e zs) (h n a ys) (λ e b zs s. record { bytes = q ∙ ap (λ r. 32 ∷ r) s.bytes; deep = s.deep; few = s.few; fit = s.fit }))
 
-  operands_sound : (l : ℕ) (rd : Reader) → Sound l rd → (h : Head) (n at : ℕ) (xs : List ℕ) → n ≤ 512 → Gives (λ e a ys. Completed (suc l) n h xs e ys) (operands bs rd h n at xs)
+  operands_sound : (l : ℕ) (rd : ExprReader) → Sound l rd → (h : Head) (n at : ℕ) (xs : List ℕ) → n ≤ 512 → Gives (λ e a ys. Completed (suc l) n h xs e ys) (operands bs rd h n at xs)
   unfolding operands
   operands_sound l rd s (Leaf k) n at xs w =
       given (record { bytes = λ r c. ap (λ t. 40 ∷ (leaf_word k ++ t)) c ∙ sym (spell_leaf k r); deep = omega (arith, nesting_leaf k); few = omega (arith, size_leaf k); fit = fit_leaf k })
@@ -153,7 +153,7 @@ module _ (bs : List ℕ) where
         fit = fit_two k e f p.fit q.fit;
       })))
 
-  bracketed_sound : (l : ℕ) (rd : Head → Reader) → ((h : Head) (n at : ℕ) (xs : List ℕ) → n < 512 → Gives (λ e a ys. Completed l (n + 1) h xs e ys) (rd h n at xs)) → Sound l (bracketed bs rd)
+  bracketed_sound : (l : ℕ) (rd : Head → ExprReader) → ((h : Head) (n at : ℕ) (xs : List ℕ) → n < 512 → Gives (λ e a ys. Completed l (n + 1) h xs e ys) (rd h n at xs)) → Sound l (bracketed bs rd)
   unfolding bracketed
   bracketed_sound l rd s n at xs =
       let P : Expr → ℕ → List ℕ → Type 0 = λ e a ys. Spelled l n xs e ys in

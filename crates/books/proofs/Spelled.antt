@@ -91,15 +91,15 @@ module _ (bs : List ℕ) (lawful : Class → Bool) where
       by_line RuleLine a ys e o h rec = given (no_more (suc left) cs xs)
 
 -- a rule line's bytes
-record SpelledLine (left n : ℕ) (xs : List ℕ) (e : Expr) (ys : List ℕ) : Type 0 where
-  bytes : xs ≡ spell_rule e ys
-  positive : 0 < left
-  deep : nesting e ≤ 64
-  few : n + size e ≤ 512
-  fit : NumbersFit e
+pub record SpelledLine (left n : ℕ) (xs : List ℕ) (e : Expr) (ys : List ℕ) : Type 0 where
+  pub bytes : xs ≡ spell_rule e ys
+  pub positive : 0 < left
+  pub deep : nesting e ≤ 64
+  pub few : n + size e ≤ 512
+  pub fit : NumbersFit e
 
 module _ (bs : List ℕ) where
-  line_sound : (left n at : ℕ) (xs : List ℕ) → Gives (λ e a ys. SpelledLine left n xs e ys) (rule_line bs left n at xs)
+  pub line_sound : (left n at : ℕ) (xs : List ℕ) → Gives (λ e a ys. SpelledLine left n xs e ys) (rule_line bs left n at xs)
   unfolding rule_line
   line_sound left n at xs =
       let P : Expr → ℕ → List ℕ → Type 0 = λ e a ys. SpelledLine left n xs e ys in
@@ -168,7 +168,7 @@ module _ (bs : List ℕ) where
   class_complete lawful c at next r fits h =
       let p = number_there bs (next + 1) c.first 32 (decimal c.second ++ (41 ∷ (10 ∷ r))) refl fits.0 in
       let q = number_there bs (p.0 + 1) c.second 41 (10 ∷ r) refl fits.1 in
-      (_, class_ok bs lawful at next _ (numbers_ok bs next _ (space_there bs next _) p.1 (space_there bs p.0 _) q.1 (close_there bs q.0 _)) h (feed_there bs _ r))
+      (_, class_ok bs next _ lawful at (numbers_ok bs next _ (space_there bs next _) p.1 (space_there bs p.0 _) q.1 (close_there bs q.0 _)) h (feed_there bs _ r))
 
   class_start : (at : ℕ) (r : List ℕ) → Reads (line_start_lem bs at (40 ∷ (codes "class" ++ (32 ∷ r)))) ClassLine (32 ∷ r)
   class_start at r = let w = class_line_there bs (at + 1) r in (w.0, start_on bs at _ (open_there bs at _) ∙ w.1)
@@ -192,7 +192,7 @@ module _ (bs : List ℕ) where
   line_complete left n at e r d s m =
       let w = rule_there bs (at + 1) (spell e (41 ∷ (10 ∷ r))) in
       let p = operand_there bs 64 n w.0 (spell e (41 ∷ (10 ∷ r))) e (41 ∷ (10 ∷ r)) (λ b. expression_complete bs e 64 n b (41 ∷ (10 ∷ r)) d s m) in
-      (_, line_ok bs (suc left) n at _ (open_there bs at _) w.1 (omega arith) p.1 (close_there bs p.0 (10 ∷ r)) (feed_there bs _ r))
+      (_, line_ok bs at _ (suc left) n (omega arith) (open_there bs at _) w.1 p.1 (close_there bs p.0 (10 ∷ r)) (feed_there bs _ r))
 
   rules_complete : (new : List Expr) (left : ℕ) (es : List Expr) (n at : ℕ) → 0 < length new → length new ≤ left → n + sizes new ≤ 512 → Each (λ e. (nesting e ≤ 64) × NumbersFit e) new → Reads (rule_lines bs left es n at (spell_rules new)) (es ++ new) []
   rules_complete [] left es n at some most few each = absurd (omega arith)

@@ -26,8 +26,8 @@ use Rattle.books.specs.declared.head.LineWord.TheVariants.{Class as ClassLine, R
 use Rattle.books.specs.Heads.{leaf, numbered, one, two}
 
 -- A reader of expressions: how many expressions stand before it, the place, and the bytes from there on.
-abbrev pub Reader : Type 0
-Reader = ℕ → ℕ → List ℕ → Out BookFault Expr
+abbrev pub ExprReader : Type 0
+ExprReader = ℕ → ℕ → List ℕ → Out BookFault Expr
 
 -- In all that follows bs is the whole book, from which a fault has its line.
 
@@ -73,11 +73,11 @@ unfoldable pub heading : List ℕ → ℕ → List ℕ → Out ExprFault Head
 heading bs at xs = headed bs at (lexing bs at xs)
 
 -- A space and an expression.
-unfoldable pub operand : List ℕ → Reader → Reader
+unfoldable pub operand : List ℕ → ExprReader → ExprReader
 operand bs rd n at xs = after (inside InExpr (expecting bs Space at xs)) (λ t a ys. rd n a ys)
 
 -- What a word asks for after it.
-unfoldable pub operands : List ℕ → Reader → Head → Reader
+unfoldable pub operands : List ℕ → ExprReader → Head → ExprReader
 operands bs rd (Leaf k) n at xs = ok (leaf k) at xs
 operands bs rd (Numbered k) n at xs =
     after (inside InExpr (expecting bs Space at xs)) (λ t a ys.
@@ -88,7 +88,7 @@ operands bs rd (Two k) n at xs =
     after (operand bs rd (n + size e) a ys) (λ f b zs. ok (two k e f) b zs))
 
 -- An expression in its brackets, by a reader of what comes after its word. At the word it is one too many if 512 stand before it.
-unfoldable pub bracketed : List ℕ → (Head → Reader) → Reader
+unfoldable pub bracketed : List ℕ → (Head → ExprReader) → ExprReader
 bracketed bs rd n at xs =
     after (inside InExpr (expecting bs Open at xs)) (λ t a ys.
     after (inside InExpr (heading bs a ys)) (λ h b zs.
@@ -97,7 +97,7 @@ bracketed bs rd n at xs =
     after (inside InExpr (expecting bs Close c ws)) (λ t d vs. ok e d vs)))))
 
 -- An expression nested at most `left` deep.
-unfoldable pub expression : List ℕ → ℕ → Reader
+unfoldable pub expression : List ℕ → ℕ → ExprReader
 expression bs zero n at xs = bracketed bs (λ h m b zs. no (InExpr (TooDeep (spot bs at)))) n at xs
 expression bs (suc left) n at xs = bracketed bs (λ h m b zs. operands bs (expression bs left) h (m + 1) b zs) n at xs
 
@@ -148,7 +148,7 @@ class_lines bs lawful (suc left) cs at xs =
     (ok cs at xs))
 
 -- A rule line, where there may be `left` more rules and n expressions stand before it. At its word it is found to be one too many.
-unfoldable pub rule_line : List ℕ → ℕ → Reader
+unfoldable pub rule_line : List ℕ → ℕ → ExprReader
 rule_line bs left n at xs =
     after (inside InExpr (expecting bs Open at xs)) (λ t a ys.
     after (inside InExpr (expecting bs (Letters Rule) a ys)) (λ t b zs.
