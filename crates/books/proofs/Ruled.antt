@@ -119,21 +119,27 @@ module _ (start : Reader) (T : Table) (R : Roots) (r : Reader) (b : Begun start 
   pub begun_no : {e : BookFault} → rule_line r.bytes.now left (count T) r.at (rest r) ≡ no e → rule_lines start.bytes.now 32 [] 0 start.at (rest start) ≡ no e
   begun_no e = sym b.goes ∙ rules_no r.bytes.now _ _ _ _ _ (ap (λ k. rule_line r.bytes.now k (count T) r.at (rest r)) (sym more_left) ∙ e)
 
-  module _ (T' : Table) (s : Reader) (g : Grown (rule_line r.bytes.now left (count T)) (past r.at (codes "rule")) r s T T') (R' : Roots) (added : rooted R' ≡ rooted R ++ (count T ∷ [])) where
+  -- after one more line, whose root has been pushed
+  module _ (T' : Table) (s : Reader) (g : Grown (rule_line r.bytes.now left (count T)) (past r.at (codes "rule")) r s T T') (R' : Roots) (n : ℕ) (n_is : n ≡ count T) (push : rooted R' ≡ cond (ltb (length (rooted R)) 32) (rooted R ++ (n ∷ [])) (rooted R)) where
     line : Passed left r s g.tree
     line = passed left (count T) r s g.step
+
+    pub room : length (rooted R) < 32
+    room = let p = line.positive in omega arith
+
+    added : rooted R' ≡ rooted R ++ (count T ∷ [])
+    added = pushed 32 (rooted R) _ n room push ∙ ap (λ k. rooted R ++ (k ∷ [])) n_is
 
     more : List Expr
     more = b.trees ++ (g.tree ∷ [])
 
-    longer : length (rooted R') ≡ length (rooted R) + 1
+    pub longer : length (rooted R') ≡ length (rooted R) + 1
     longer = ap length added ∙ length_push (rooted R) (count T)
 
     on : rule_lines start.bytes.now 32 [] 0 start.at (rest start) ≡ onward (rule_lines r.bytes.now (32 - length (rooted R')) more (count T + size g.tree)) more s.at (rest s)
     unfolding more
     on =
-        let p = line.positive in
-        sym b.goes ∙ rules_on r.bytes.now (32 - length (rooted R)) (32 - length (rooted R')) b.trees (count T) r.at (rest r) (omega (arith, longer, more_left)) (ap (λ k. rule_line r.bytes.now k (count T) r.at (rest r)) (sym more_left) ∙ g.step.says)
+        sym b.goes ∙ rules_on r.bytes.now (32 - length (rooted R)) (32 - length (rooted R')) b.trees (count T) r.at (rest r) (omega (arith, longer, room)) (ap (λ k. rule_line r.bytes.now k (count T) r.at (rest r)) (sym more_left) ∙ g.step.says)
 
     counted : count T ≡ sizes b.trees
     counted = ap length b.wrote ∙ flats_length 0 start.at b.trees
@@ -156,7 +162,6 @@ module _ (start : Reader) (T : Table) (R : Roots) (r : Reader) (b : Begun start 
     pub begun_more : s.at < length s.bytes.now → Begun start T' R' s
     unfolding more
     begun_more h =
-        let p = line.positive in
         record {
           trees = more;
           same = same;
@@ -167,7 +172,7 @@ module _ (start : Reader) (T : Table) (R : Roots) (r : Reader) (b : Begun start 
               ∙ sym on;
           wrote = wrote_more;
           begins = begins_more;
-          most = omega (arith, longer, more_left);
+          most = omega (arith, longer, room);
           moved = omega (arith, line.moved, b.moved, line_widths_push b.trees g.tree);
         }
 

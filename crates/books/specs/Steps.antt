@@ -35,6 +35,10 @@ pub record Grown (rd : ℕ → List ℕ → Out BookFault Expr) (place : ℕ) (r
   pub step : Stepped (rd r.at (rest r)) r tree s
   pub wrote : laid now ≡ laid before ++ flat (count before) place tree
 
+-- The reader r answered whether the reading rd of an expression that stands at `place` has one; it went on as s, and the table has got it.
+abbrev pub Grows : (ℕ → List ℕ → Out BookFault Expr) → ℕ → Reader → Result (Unit {0}) BookFault → Reader → Table → Table → Type 0
+Grows rd place r result s before now = MatchResult result (λ _. Grown rd place r s before now) (λ e. rd r.at (rest r) ≡ no e)
+
 -- A reading of the operands of an expression that stands at `place`, which the table has got.
 pub record Filled (rd : ℕ → List ℕ → Out BookFault Expr) (place : ℕ) (r s : Reader) (before now : Table) (operator : Operator) : Type 0 where
   pub tree : Expr

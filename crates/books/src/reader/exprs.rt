@@ -2,7 +2,7 @@ ghost use Rattle.std.specs.Prelude.{◌≡◌, ℕ, ◌+◌, length, MatchResult
 ghost use Rattle.tokens.specs.Out.{no};
 ghost use Rattle.books.specs.Heads.{head_word};
 ghost use Rattle.books.specs.Reading.{operand, operands, expression};
-ghost use Rattle.books.specs.Steps.{rest, count, Grown, Filled};
+ghost use Rattle.books.specs.Steps.{rest, count, Grows, Filled};
 
 use crate::fault::{BookFault, ExprFault};
 use crate::head::Head;
@@ -13,11 +13,9 @@ use tokens::Token;
 impl Reader<'_> {
     // Reads an expression nested at most `left` deep into the table.
     #[cycle(exprs)]
-    #[tactic(auto, using(crate::proofs::Outs::expression_none, crate::proofs::Outs::expression_some), unfolding(crate::specs::Reading::bracketed))]
+    #[tactic(auto, using(crate::proofs::Outs::expression_none, crate::proofs::Outs::expression_some, crate::proofs::Grows::reserved), unfolding(crate::specs::Reading::bracketed))]
     fn expr(&mut self, left: u8, table: &mut Table) -> Result<(), BookFault>
-        ensures { MatchResult result
-            (λ _. Grown (expression self.old.bytes.now left (count table.old)) self.old.at self.old self.new table.old table.new)
-            (λ e. expression self.old.bytes.now left (count table.old) self.old.at (rest self.old) ≡ no e) }
+        ensures { Grows (expression self.old.bytes.now left (count table.old)) self.old.at self.old result self.new table.old table.new }
     {
         let start = self.at;
         self.expect(Token::Open)?;
@@ -65,9 +63,7 @@ impl Reader<'_> {
     #[cycle(exprs)]
     #[tactic(auto, unfolding(crate::specs::Reading::operand))]
     pub(super) fn operand(&mut self, left: u8, table: &mut Table) -> Result<(), BookFault>
-        ensures { MatchResult result
-            (λ _. Grown (operand self.old.bytes.now (expression self.old.bytes.now left) (count table.old)) (self.old.at + 1) self.old self.new table.old table.new)
-            (λ e. operand self.old.bytes.now (expression self.old.bytes.now left) (count table.old) self.old.at (rest self.old) ≡ no e) }
+        ensures { Grows (operand self.old.bytes.now (expression self.old.bytes.now left) (count table.old)) (self.old.at + 1) self.old result self.new table.old table.new }
     {
         self.expect(Token::Space)?;
         self.expr(left, table)

@@ -3,7 +3,7 @@ ghost use Rattle.tokens.specs.Out.{no};
 ghost use Rattle.grammar.specs.Allowed.{past};
 ghost use Rattle.grammar.specs.Tables.{listed};
 ghost use Rattle.books.specs.Reading.{line_start_lem, class_numbers_lem, class_line, class_lines, rule_line, rule_lines};
-ghost use Rattle.books.specs.Steps.{rest, Stepped, Follows, count, Grown, Ruled};
+ghost use Rattle.books.specs.Steps.{rest, Stepped, Follows, count, Grows, Ruled};
 
 use crate::fault::{BookFault, ExprFault};
 use crate::head::LineWord;
@@ -52,6 +52,7 @@ impl Reader<'_> {
     }
 
     // Reads the class lines, up to the first rule line.
+    #[tactic(auto, using(crate::proofs::Rows::classes_start_no, crate::proofs::Rows::classes_end, crate::proofs::Rows::classes_many, crate::proofs::Rows::classes_no, crate::proofs::Rows::classes_on, crate::proofs::Ruled::pushed, std::proofs::lemmas::List::length_push))]
     pub(crate) fn classes<K: Kind>(&mut self, kind: &K) -> Result<Classes, BookFault>
         ensures { MatchResult result
             (λ classes. Stepped (class_lines self.old.bytes.now (K.Kind.lawful kind.now) 64 [] self.old.at (rest self.old)) self.old (listed classes) self.new)
@@ -80,9 +81,7 @@ impl Reader<'_> {
     // Reads a rule line into the table, where there may be `left` more rules.
     #[tactic(auto, unfolding(crate::specs::Reading::rule_line))]
     fn rule(&mut self, left: u8, table: &mut Table) -> Result<(), BookFault>
-        ensures { MatchResult result
-            (λ _. Grown (rule_line self.old.bytes.now left (count table.old)) (past self.old.at (codes "rule")) self.old self.new table.old table.new)
-            (λ e. rule_line self.old.bytes.now left (count table.old) self.old.at (rest self.old) ≡ no e) }
+        ensures { Grows (rule_line self.old.bytes.now left (count table.old)) (past self.old.at (codes "rule")) self.old result self.new table.old table.new }
     {
         let start = self.at;
         self.expect(Token::Open)?;
@@ -96,6 +95,7 @@ impl Reader<'_> {
     }
 
     // Reads the rule lines, up to the end of the book.
+    #[tactic(auto, using(crate::proofs::Ruled::begun_none))]
     pub(crate) fn rules(&mut self) -> Result<(Table, Roots), BookFault>
         ensures { MatchResult result
             (λ p. Ruled self.old p.0 p.1)

@@ -4,12 +4,6 @@ use Rattle.books.specs.Reading.{operands}
 use Rattle.books.proofs.Grows.{head_place, second_over, operand_refused, grown_operand, reserved, filled_leaf, filled_number, filled_one, filled_two, grown_operands_no, grown_close_no, grown}
 use Rattle.books.proofs.reader.Reader.+exprs.Goals as goal
 
-pub expr-returns-in_err-operator : goal.expr-returns-in_err-operator
-expr-returns-in_err-operator t c =
-    let v = reserved _ _ c.in-Some.ensures.slot c.in-Some.ensures.laid in
-    let e = grown_operands_no c.args.left c.args.self.now c.args.table.now c.reserve.new.self (omega arith) v c.in_ok-expect.ensures c.in_ok-head.ensures c.in_err-operator.ensures in
-    search rules
-
 pub expr-returns-in_err-expect-2 : goal.expr-returns-in_err-expect-2
 expr-returns-in_err-expect-2 t c =
     let v = reserved _ _ c.in-Some.ensures.slot c.in-Some.ensures.laid in
