@@ -123,7 +123,7 @@ module _ (bs : List ℕ) where
   -- an expression's word, its operands and its end are there
   framed : (l n at : ℕ) (xs : List ℕ) {h : Head} {at₂ : ℕ} {zs : List ℕ} (e : Expr) {at₃ : ℕ} (r : List ℕ) → n < 512 → heading bs (at + 1) xs ≡ ok h at₂ zs → operands bs (expression bs l) h (n + 1) at₂ zs ≡ ok e at₃ (41 ∷ r) → Reads (expression bs (suc l) n at (40 ∷ xs)) e r
   unfolding expression
-  framed l n at xs e r few w p = (_, close_ok bs (inner bs l) n at (40 ∷ xs) (open_there at xs) w few p (close_there _ r))
+  framed l n at xs e r few w p = (_, close_ok bs (inner bs l) n at (40 ∷ xs) few (open_there at xs) w p (close_there _ r))
 
   pub operand_there : (l n at : ℕ) (xs : List ℕ) (e : Expr) (r : List ℕ) → ((b : ℕ) → Reads (expression bs l n b xs) e r) → Reads (operand bs (expression bs l) n at (32 ∷ xs)) e r
   operand_there l n at xs e r h = let p = h (at + 1) in (p.0, operand_ok bs (expression bs l) n at (32 ∷ xs) (space_there at xs) ∙ p.1)

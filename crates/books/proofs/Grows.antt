@@ -1,14 +1,14 @@
 -- What has been read stands in the table.
-use Rattle.std.proofs.Common.{◌≡◌, ℕ, suc, ◌+◌, ◌-◌, ◌<◌, ◌≤◌, Bool, true, false, cond, ltb, List, [], ◌∷◌, ◌++◌, length, drop, set, Some, None, Option, sym, refl, ap, ◌∙◌, subst, append_assoc, arith, length-append, length-drop}
+use Rattle.std.proofs.Common.{◌≡◌, ℕ, suc, ◌+◌, ◌-◌, ◌<◌, Bool, true, false, cond, ltb, List, [], ◌∷◌, ◌++◌, length, drop, set, Some, None, sym, refl, ap, ◌∙◌, subst, append_assoc, arith, length-append, length-drop}
 use Rattle.std.proofs.lemmas.List.{append-nil, set_at}
-use Rattle.std.proofs.lemmas.Bool.{ltb-true, ltb-false, lt-ltb}
-use Rattle.tokens.specs.Out.{Out, ok, no, inside}
+use Rattle.std.proofs.lemmas.Bool.{ltb-true}
+use Rattle.tokens.specs.Out.{Out, ok, no}
 use Rattle.tokens.specs.declared.token.Token.{Token}
 use Rattle.tokens.specs.declared.token.Token.TheVariants.{Open, Close, Space}
 use Rattle.grammar.specs.declared.node.Operator.{Operator}
 use Rattle.grammar.specs.declared.table.Table.{Table}
 use Rattle.grammar.specs.Expr.{Expr, size}
-use Rattle.grammar.specs.Spelling.{spell, width}
+use Rattle.grammar.specs.Spelling.{width}
 use Rattle.grammar.specs.Allowed.{past}
 use Rattle.grammar.specs.Tables.{laid, blank}
 use Rattle.grammar.specs.Layout.{operator_of, root, below, flat}
@@ -29,7 +29,7 @@ use Rattle.books.specs.Steps.{rest, Stepped, count, Grown, Filled}
 use Rattle.books.proofs.Lexed.{Gives, given, Lexed}
 use Rattle.books.proofs.Heads.{op_leaf, below_leaf, op_numbered, below_numbered, op_one, below_one, op_two, below_two}
 use Rattle.books.proofs.Sound.{expecting_gives, head_gives, operand_sound, expression_sound}
-use Rattle.books.proofs.Outs.{operand_ok, leaf_ok, number_ok, one_ok, two_ok, second_no, close_ok, close_no, operands_no, inner, expression_some}
+use Rattle.books.proofs.Outs.{operand_ok, leaf_ok, number_ok, one_ok, two_ok, close_ok, close_no, inner, expression_some}
 
 given_back : {E A : Type 0} {P : A → ℕ → List ℕ → Type 0} {a : A} {at : ℕ} {xs : List ℕ} → Gives {E = E} P (ok a at xs) → P a at xs
 given_back (given p) = p
@@ -198,11 +198,6 @@ module _ (l : ℕ) (r : Reader) (T₀ T₁ : Table) (positive : 0 < l) {slot : �
       let i : operands r₂.bytes.now (expression r₂.bytes.now (l - 1)) h (count T₁) r₂.at (drop r₂.at r₂.bytes.now) ≡ e = k in
       cc
 
-  pub grown_operands_no : {e : BookFault} → operands r₂.bytes.now (expression r₂.bytes.now (l - 1)) h (count T₁) r₂.at (rest r₂) ≡ no e → expression r.bytes.now l (count T₀) r.at (rest r) ≡ no e
-  grown_operands_no e =
-      expression_some r.bytes.now l _ r.at _ positive
-      ∙ operands_no r.bytes.now (inner r.bytes.now (l - 1)) _ _ _ (over (λ bs. expecting bs Open) r.bytes.now refl o) (over heading r.bytes.now o.same w) v.few (inner_over _ e)
-
   module _ (r₃ : Reader) {T₂ : Table} {x : Operator} (g : Filled (operands r₂.bytes.now (expression r₂.bytes.now (l - 1)) h (count T₁)) r.at r₂ r₃ T₁ T₂ x) where
     same₃ : r₃.bytes.now ≡ r.bytes.now
     same₃ = g.step.same ∙ same₂
@@ -213,7 +208,7 @@ module _ (l : ℕ) (r : Reader) (T₀ T₁ : Table) (positive : 0 < l) {slot : �
     pub grown_close_no : {e : ExprFault} → expecting r₃.bytes.now Close r₃.at (rest r₃) ≡ no e → expression r.bytes.now l (count T₀) r.at (rest r) ≡ no (InExpr e)
     grown_close_no e =
         expression_some r.bytes.now l _ r.at _ positive
-        ∙ close_no r.bytes.now (inner r.bytes.now (l - 1)) _ _ _ (over (λ bs. expecting bs Open) r.bytes.now refl o) (over heading r.bytes.now o.same w) v.few inner_ok (ap (λ bs. expecting bs Close r₃.at (drop r₃.at bs)) (sym same₃) ∙ e)
+        ∙ close_no r.bytes.now (inner r.bytes.now (l - 1)) _ _ _ v.few (over (λ bs. expecting bs Open) r.bytes.now refl o) (over heading r.bytes.now o.same w) inner_ok (ap (λ bs. expecting bs Close r₃.at (drop r₃.at bs)) (sym same₃) ∙ e)
 
     pub grown : {r₄ : Reader} (T₃ : Table) → Stepped (expecting r₃.bytes.now Close r₃.at (rest r₃)) r₃ Close r₄ → laid T₃ ≡ set (laid T₂) slot (record { operator = x; end = count T₂; place = r.at }) → Grown (expression r.bytes.now l (count T₀)) r.at r r₄ T₀ T₃
     grown {r₄ = r₄} T₃ q last =
@@ -225,7 +220,7 @@ module _ (l : ℕ) (r : Reader) (T₀ T₁ : Table) (positive : 0 < l) {slot : �
             says =
                 rw same
                 (expression_some r.bytes.now l _ r.at _ positive
-                ∙ close_ok r.bytes.now (inner r.bytes.now (l - 1)) _ _ _ (over (λ bs. expecting bs Open) r.bytes.now refl o) (over heading r.bytes.now o.same w) v.few inner_ok (over (λ bs. expecting bs Close) r.bytes.now same₃ q));
+                ∙ close_ok r.bytes.now (inner r.bytes.now (l - 1)) _ _ _ v.few (over (λ bs. expecting bs Open) r.bytes.now refl o) (over heading r.bytes.now o.same w) inner_ok (over (λ bs. expecting bs Close) r.bytes.now same₃ q));
           };
           wrote = filled_room T₃ v g last;
         }

@@ -49,7 +49,7 @@ Back l xs e r = (n at : ℕ) → Reads (uncounted l n at xs) e r
 
 framed : (l n at : ℕ) (xs : List ℕ) {h : Head} {at₂ : ℕ} {zs : List ℕ} (e : Expr) {at₃ : ℕ} (r : List ℕ) → heading [] (at + 1) xs ≡ ok h at₂ zs → operands [] (uncounted l) h 0 at₂ zs ≡ ok e at₃ (41 ∷ r) → Reads (uncounted (suc l) n at (40 ∷ xs)) e r
 unfolding uncounted
-framed l n at xs e r w p = (_, close_ok [] (operands [] (uncounted l)) 0 at (40 ∷ xs) (open_there [] at xs) w (omega arith) p (close_there [] _ r))
+framed l n at xs e r w p = (_, close_ok [] (operands [] (uncounted l)) 0 at (40 ∷ xs) (omega arith) (open_there [] at xs) w p (close_there [] _ r))
 
 operand_back : (l n at : ℕ) (xs : List ℕ) (e : Expr) (r : List ℕ) → Back l xs e r → Reads (operand [] (uncounted l) n at (32 ∷ xs)) e r
 operand_back l n at xs e r h = let p = h n (at + 1) in (p.0, operand_ok [] (uncounted l) n at (32 ∷ xs) (space_there [] at xs) ∙ p.1)

@@ -1,24 +1,16 @@
 -- The definitions of lines, read one step at a time.
-use Rattle.std.proofs.Common.{◌≡◌, ℕ, zero, suc, ◌+◌, ◌-◌, ◌<◌, ◌≤◌, Bool, true, false, cond, ltb, List, [], ◌∷◌, ◌++◌, length, drop, codes, sym, refl, ap, ◌∙◌, append_assoc, zero-add, arith, length-append, length-drop}
-use Rattle.std.proofs.lemmas.Bool.{eq-eqb, ne_eqb, lt-ltb}
-use Rattle.std.proofs.lemmas.List.{append-nil, length_push}
+use Rattle.std.proofs.Common.{◌≡◌, ℕ, zero, suc, ◌+◌, ◌<◌, Bool, true, List, [], ◌∷◌, ◌++◌, ap, ◌∙◌, arith}
+use Rattle.std.proofs.lemmas.Bool.{ne_eqb}
 use Rattle.kinds.specs.declared.class.Class.{Class}
-use Rattle.tokens.specs.Out.{Out, ok, no, inside}
+use Rattle.tokens.specs.Out.{Out, ok, no}
 use Rattle.tokens.specs.Spots.{spot}
 use Rattle.tokens.specs.declared.token.Word.TheVariants.{Rule}
 use Rattle.tokens.specs.declared.token.Token.{Token}
 use Rattle.tokens.specs.declared.token.Token.TheVariants.{Open, Close, Space, Feed, Letters}
-use Rattle.grammar.specs.declared.table.Table.{Table}
-use Rattle.grammar.specs.declared.roots.Roots.{Roots}
 use Rattle.grammar.specs.Expr.{Expr, size}
-use Rattle.grammar.specs.Allowed.{past, line_width, sizes}
-use Rattle.grammar.specs.Spelling.{width}
-use Rattle.grammar.specs.Tables.{laid, rooted}
-use Rattle.grammar.specs.Layout.{flat, flats, starts}
-use Rattle.grammar.proofs.Widths.{flat_length}
 use Rattle.books.specs.declared.fault.ExprFault.{ExprFault}
 use Rattle.books.specs.declared.fault.BookFault.{BookFault}
-use Rattle.books.specs.declared.fault.BookFault.TheVariants.{InExpr, TooMany, Unlawful}
+use Rattle.books.specs.declared.fault.BookFault.TheVariants.{InExpr, TooMany}
 use Rattle.books.specs.declared.head.LineWord.{LineWord}
 use Rattle.books.specs.declared.head.LineWord.TheVariants.{Class as ClassLine, Rule as RuleLine}
 use Rattle.books.specs.Reading.{expecting, numbering, operand, expression, line_heading, line_start_lem, class_numbers_lem, class_line, class_lines, rule_line, onward, rule_lines}

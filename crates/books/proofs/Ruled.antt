@@ -1,5 +1,5 @@
 -- Rule lines that have been read stand in the tables.
-use Rattle.std.proofs.Common.{◌≡◌, ℕ, suc, ◌+◌, ◌-◌, ◌<◌, ◌≤◌, cond, ltb, List, [], ◌∷◌, ◌++◌, length, drop, codes, sym, refl, ap, ◌∙◌, append_assoc, zero-add, arith, length-append, length-drop}
+use Rattle.std.proofs.Common.{◌≡◌, ℕ, suc, ◌+◌, ◌-◌, ◌<◌, cond, ltb, List, [], ◌∷◌, ◌++◌, length, codes, sym, refl, ap, ◌∙◌, append_assoc, zero-add, arith, length-append, length-drop}
 use Rattle.std.proofs.lemmas.Bool.{lt-ltb}
 use Rattle.std.proofs.lemmas.List.{append-nil, length_push}
 use Rattle.tokens.specs.Out.{Out, ok, no}
@@ -9,7 +9,6 @@ use Rattle.grammar.specs.declared.table.Table.{Table}
 use Rattle.grammar.specs.declared.roots.Roots.{Roots}
 use Rattle.grammar.specs.Expr.{Expr, size}
 use Rattle.grammar.specs.Allowed.{past, line_width, sizes}
-use Rattle.grammar.specs.Spelling.{width}
 use Rattle.grammar.specs.Tables.{laid, rooted}
 use Rattle.grammar.specs.Layout.{flat, flats, starts}
 use Rattle.grammar.proofs.Widths.{spell_length, flat_length}

@@ -1,12 +1,12 @@
 -- What is read is spelled: tokens that the layout wants, and expressions.
-use Rattle.std.proofs.Common.{◌≡◌, ℕ, zero, suc, ◌+◌, ◌<◌, ◌≤◌, Bool, true, leb, List, ◌∷◌, ◌++◌, codes, decimal, sym, ap, subst, ◌∙◌, arith, rules}
+use Rattle.std.proofs.Common.{◌≡◌, ℕ, zero, suc, ◌+◌, ◌<◌, ◌≤◌, true, leb, List, ◌∷◌, ◌++◌, codes, decimal, sym, ap, subst, ◌∙◌, arith, rules}
 use Rattle.std.proofs.lemmas.Bool.{cond_both, leb-false}
-use Rattle.tokens.specs.Out.{Out, ok, no, inside}
+use Rattle.tokens.specs.Out.{Out, ok, no}
 use Rattle.tokens.specs.Spots.{spot}
 use Rattle.tokens.specs.declared.token.Word.{Word}
-use Rattle.tokens.specs.declared.token.Word.TheVariants.{Class, Rule, Empty, Any, Term, Call, Seq, Alt, Star, Not, Other}
+use Rattle.tokens.specs.declared.token.Word.TheVariants.{Class, Rule, Empty, Any, Term, Call, Seq, Alt, Star, Not}
 use Rattle.tokens.specs.declared.token.Token.{Token}
-use Rattle.tokens.specs.declared.token.Token.TheVariants.{Open, Close, Space, Feed, Letters, Number, End}
+use Rattle.tokens.specs.declared.token.Token.TheVariants.{Open, Close, Space, Letters, Number}
 use Rattle.tokens.specs.declared.token.TokenFault.{TokenFault}
 use Rattle.grammar.specs.Expr.{Expr, size, nesting}
 use Rattle.grammar.specs.Spelling.{spell}

@@ -3,7 +3,7 @@ use Rattle.std.proofs.Common.{◌≡◌, ℕ, zero, suc, ◌+◌, ◌<◌, ◌�
 use Rattle.std.proofs.lemmas.Bool.{cond_both, eqb-false}
 use Rattle.std.proofs.lemmas.List.{append-nil}
 use Rattle.kinds.specs.declared.class.Class.{Class}
-use Rattle.tokens.specs.Out.{Out, ok, no, after, inside}
+use Rattle.tokens.specs.Out.{Out, ok, no, after}
 use Rattle.tokens.specs.Spots.{spot}
 use Rattle.tokens.specs.declared.token.Token.TheVariants.{Open, Close, Space, Feed}
 use Rattle.grammar.specs.Expr.{Expr, Grammar, size, nesting}

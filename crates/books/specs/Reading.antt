@@ -5,9 +5,9 @@ use Rattle.tokens.specs.Out.{Out, ok, no, after, inside}
 use Rattle.tokens.specs.Spots.{spot}
 use Rattle.tokens.specs.Lexing.{lexing}
 use Rattle.tokens.specs.declared.token.Word.{Word}
-use Rattle.tokens.specs.declared.token.Word.TheVariants.{Class, Rule, Empty, Any, Term, Call, Seq, Alt, Star, Not, Other}
+use Rattle.tokens.specs.declared.token.Word.TheVariants.{Class, Rule, Empty, Any, Term, Call, Seq, Alt, Star, Not}
 use Rattle.tokens.specs.declared.token.Token.{Token}
-use Rattle.tokens.specs.declared.token.Token.TheVariants.{Open, Close, Space, Feed, Letters, Number, End}
+use Rattle.tokens.specs.declared.token.Token.TheVariants.{Open, Close, Space, Feed, Letters, Number}
 use Rattle.tokens.specs.declared.token.TokenFault.{TokenFault}
 use Rattle.tokens.specs.contracts.token.TokenPartialEq.TheImpl as token_eq
 use Rattle.grammar.specs.Expr.{Expr, Grammar, size}

@@ -1,4 +1,4 @@
-use Rattle.std.proofs.Common.{ℕ, Bool, List, refl, arith}
+use Rattle.std.proofs.Common.{ℕ, Bool, List, arith}
 use Rattle.std.proofs.lemmas.Result.{err_from_is_err_and}
 use Rattle.kinds.specs.declared.class.Class.{Class}
 use Rattle.books.specs.Verdict.{too_long, unread, missing, loops, AcceptedAsSpelled, SpelledOnce, OneVerdict}

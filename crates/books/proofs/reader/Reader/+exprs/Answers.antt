@@ -1,7 +1,7 @@
 use Rattle.std.proofs.Common.{arith, rules}
 use Rattle.std.proofs.lemmas.Result.{MatchResult-weaker}
 use Rattle.books.specs.Reading.{operands}
-use Rattle.books.proofs.Grows.{head_place, second_over, operand_refused, grown_operand, reserved, filled_leaf, filled_number, filled_one, filled_two, grown_operands_no, grown_close_no, grown}
+use Rattle.books.proofs.Grows.{head_place, second_over, operand_refused, grown_operand, reserved, filled_leaf, filled_number, filled_one, filled_two, grown_close_no, grown}
 use Rattle.books.proofs.reader.Reader.+exprs.Goals as goal
 
 pub expr-returns-in_err-expect-2 : goal.expr-returns-in_err-expect-2
