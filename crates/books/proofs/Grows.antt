@@ -169,7 +169,7 @@ reserved T₀ T₁ {slot = slot} s l = by_test (ltb (count T₀) 512) refl
         let found : Some slot ≡ Some (count T₀) = s ∙ ap (λ b. cond b (Some (count T₀)) None) e in
         let room : laid T₁ ≡ laid T₀ ++ (blank ∷ []) = l ∙ ap (λ b. cond b (laid T₀ ++ (blank ∷ [])) (laid T₀)) e in
         record { few = ltb-true (count T₀) 512 e; last = cc; room = room; counted = ap length room ∙ length-append (laid T₀) (blank ∷ []) }
-    by_test false e = absurd (let z : Some slot ≡ None = s ∙ ap (λ b. cond b (Some (count T₀)) None) e in let z' : ◌≡◌ {A = ℕ} 0 1 = cc in omega arith)
+    by_test false e = let none : Some slot ≡ None = s ∙ ap (λ b. cond b (Some (count T₀)) None) e in absurd cc
 
 -- the table when the room has been filled
 filled_room : {rd : ℕ → List ℕ → Out BookFault Expr} {place : ℕ} {r s : Reader} {T₀ T₁ T₂ : Table} (T₃ : Table) {slot : ℕ} {x : Operator} → Reserved T₀ T₁ slot → (g : Filled rd place r s T₁ T₂ x) → laid T₃ ≡ set (laid T₂) slot (record { operator = x; end = count T₂; place = place }) → laid T₃ ≡ laid T₀ ++ flat (count T₀) place g.tree

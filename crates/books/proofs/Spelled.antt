@@ -191,7 +191,7 @@ module _ (bs : List ℕ) where
   line_complete : (left n at : ℕ) (e : Expr) (r : List ℕ) → nesting e ≤ 64 → n + size e ≤ 512 → NumbersFit e → Reads (rule_line bs (suc left) n at (spell_rule e r)) e r
   line_complete left n at e r d s m =
       let w = rule_there bs (at + 1) (spell e (41 ∷ (10 ∷ r))) in
-      let p = operand_there bs 64 n w.0 (spell e (41 ∷ (10 ∷ r))) e (41 ∷ (10 ∷ r)) (λ b. expression_complete bs e 64 n b (41 ∷ (10 ∷ r)) d s m) in
+      let p = operand_there bs (expression bs 64) n w.0 (spell e (41 ∷ (10 ∷ r))) e (41 ∷ (10 ∷ r)) (λ b. expression_complete bs e 64 n b (41 ∷ (10 ∷ r)) d s m) in
       (_, line_ok bs at _ (suc left) n (omega arith) (open_there bs at _) w.1 p.1 (close_there bs p.0 (10 ∷ r)) (feed_there bs _ r))
 
   rules_complete : (new : List Expr) (left : ℕ) (es : List Expr) (n at : ℕ) → 0 < length new → length new ≤ left → n + sizes new ≤ 512 → Each (λ e. (nesting e ≤ 64) × NumbersFit e) new → Reads (rule_lines bs left es n at (spell_rules new)) (es ++ new) []
