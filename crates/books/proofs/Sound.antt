@@ -1,5 +1,5 @@
 -- What is read is spelled: tokens that the layout wants, and expressions.
-use Rattle.std.proofs.Common.{◌≡◌, ℕ, zero, suc, ◌+◌, ◌<◌, ◌≤◌, true, leb, List, ◌∷◌, ◌++◌, codes, decimal, sym, ap, subst, ◌∙◌, arith, rules}
+use Rattle.std.proofs.Common.{◌≡◌, ℕ, zero, suc, ◌+◌, ◌<◌, ◌≤◌, true, leb, List, [], ◌∷◌, ◌++◌, codes, decimal, sym, ap, subst, ◌∙◌, arith, rules}
 use Rattle.std.proofs.lemmas.Bool.{cond_both, leb-false}
 use Rattle.tokens.specs.Out.{Out, ok, no}
 use Rattle.tokens.specs.Spots.{spot}
@@ -87,16 +87,9 @@ module _ (bs : List ℕ) where
   unfolding line_heading
   line_word_gives at xs = line_headed_gives at xs _ (lexing_gives bs at xs)
 
--- The bytes xs are an expression within the limits, and then ys.
-pub record Spelled (l n : ℕ) (xs : List ℕ) (e : Expr) (ys : List ℕ) : Type 0 where
-  pub bytes : xs ≡ spell e ys
-  pub deep : nesting e ≤ l
-  pub few : n + size e ≤ 512
-  pub fit : NumbersFit e
-
--- A space and an expression.
-pub record Spaced (l n : ℕ) (xs : List ℕ) (e : Expr) (ys : List ℕ) : Type 0 where
-  pub bytes : xs ≡ 32 ∷ spell e ys
+-- The bytes xs are w, an expression within the limits, and then ys.
+pub record Spelled (l n : ℕ) (w xs : List ℕ) (e : Expr) (ys : List ℕ) : Type 0 where
+  pub bytes : xs ≡ w ++ spell e ys
   pub deep : nesting e ≤ l
   pub few : n + size e ≤ 512
   pub fit : NumbersFit e
@@ -110,14 +103,14 @@ pub record Completed (l n : ℕ) (h : Head) (xs : List ℕ) (e : Expr) (ys : Lis
 
 -- A reader that reads only what is spelled.
 abbrev pub Sound : ℕ → ExprReader → Type 0
-Sound l rd = (n at : ℕ) (xs : List ℕ) → Gives (λ e a ys. Spelled l n xs e ys) (rd n at xs)
+Sound l rd = (n at : ℕ) (xs : List ℕ) → Gives (λ e a ys. Spelled l n [] xs e ys) (rd n at xs)
 
 module _ (bs : List ℕ) where
-  pub operand_sound : (l : ℕ) (rd : ExprReader) → Sound l rd → (n at : ℕ) (xs : List ℕ) → Gives (λ e a ys. Spaced l n xs e ys) (operand bs rd n at xs)
+  pub operand_sound : (l : ℕ) (rd : ExprReader) → Sound l rd → (n at : ℕ) (xs : List ℕ) → Gives (λ e a ys. Spelled l n (32 ∷ []) xs e ys) (operand bs rd n at xs)
   unfolding operand
   operand_sound l rd h n at xs =
-      after_gives (λ e a ys. Spaced l n xs e ys) _ (inside_gives InExpr (expecting_gives bs Space at xs)) (λ t a ys q.
-      gives_weaker (λ e a zs. Spaced l n xs e zs) (h n a ys) (λ e b zs s. record { bytes = q ∙ ap (λ r. 32 ∷ r) s.bytes; deep = s.deep; few = s.few; fit = s.fit }))
+      after_gives (λ e a ys. Spelled l n (32 ∷ []) xs e ys) _ (inside_gives InExpr (expecting_gives bs Space at xs)) (λ t a ys q.
+      gives_weaker (λ e a zs. Spelled l n (32 ∷ []) xs e zs) (h n a ys) (λ e b zs s. record { bytes = q ∙ ap (λ r. 32 ∷ r) s.bytes; deep = s.deep; few = s.few; fit = s.fit }))
 
   operands_sound : (l : ℕ) (rd : ExprReader) → Sound l rd → (h : Head) (n at : ℕ) (xs : List ℕ) → n ≤ 512 → Gives (λ e a ys. Completed (suc l) n h xs e ys) (operands bs rd h n at xs)
   unfolding operands
@@ -156,7 +149,7 @@ module _ (bs : List ℕ) where
   bracketed_sound : (l : ℕ) (rd : Head → ExprReader) → ((h : Head) (n at : ℕ) (xs : List ℕ) → n < 512 → Gives (λ e a ys. Completed l (n + 1) h xs e ys) (rd h n at xs)) → Sound l (bracketed bs rd)
   unfolding bracketed
   bracketed_sound l rd s n at xs =
-      let P : Expr → ℕ → List ℕ → Type 0 = λ e a ys. Spelled l n xs e ys in
+      let P : Expr → ℕ → List ℕ → Type 0 = λ e a ys. Spelled l n [] xs e ys in
       after_gives P _ (inside_gives InExpr (expecting_gives bs Open at xs)) (λ t a ys o.
       after_gives P _ (inside_gives InExpr (head_gives bs a ys)) (λ h b zs w.
       cond_both (leb 512 n) (no (TooMany (spot bs at))) _ (Gives P) (λ _. none) (λ c.

@@ -28,6 +28,7 @@ impl Reader<'_> {
         }
         let operator = self.operands(left - 1, head, table)?;
         self.expect(Token::Close)?;
+        // the place fits, since the book is short
         table.fill(slot, operator, start as u16);
         Ok(())
     }
