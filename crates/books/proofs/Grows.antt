@@ -13,9 +13,7 @@ use Rattle.grammar.specs.Allowed.{past}
 use Rattle.grammar.specs.Tables.{laid, blank}
 use Rattle.grammar.specs.Layout.{operator_of, root, below, flat}
 use Rattle.grammar.proofs.Widths.{spell_length, flat_length, below_length}
-use Rattle.books.specs.declared.fault.ExprFault.{ExprFault}
 use Rattle.books.specs.declared.fault.BookFault.{BookFault}
-use Rattle.books.specs.declared.fault.BookFault.TheVariants.{InExpr}
 use Rattle.books.specs.declared.head.Leaf.{Leaf as LeafOf}
 use Rattle.books.specs.declared.head.Numbered.{Numbered as NumberedOf}
 use Rattle.books.specs.declared.head.One.{One as OneOf}
@@ -29,7 +27,7 @@ use Rattle.books.specs.Steps.{rest, Stepped, count, Grown, Filled}
 use Rattle.books.proofs.Lexed.{Gives, given, Lexed}
 use Rattle.books.proofs.Heads.{op_leaf, below_leaf, op_numbered, below_numbered, op_one, below_one, op_two, below_two}
 use Rattle.books.proofs.Sound.{expecting_gives, head_gives, operand_sound, expression_sound}
-use Rattle.books.proofs.Outs.{operand_ok, leaf_ok, number_ok, one_ok, two_ok, close_ok, close_no, inner, expression_some}
+use Rattle.books.proofs.Outs.{operand_ok, leaf_ok, number_ok, one_ok, two_ok, close_ok, inner, expression_some}
 
 given_back : {E A : Type 0} {P : A → ℕ → List ℕ → Type 0} {a : A} {at : ℕ} {xs : List ℕ} → Gives {E = E} P (ok a at xs) → P a at xs
 given_back (given p) = p
@@ -74,25 +72,17 @@ operand_moved l n r s {x = x} h =
 pub grown_count : {rd : ℕ → List ℕ → Out BookFault Expr} {place : ℕ} {r s : Reader} {T₀ T₁ : Table} (g : Grown rd place r s T₀ T₁) → count T₁ ≡ count T₀ + size g.tree
 grown_count {place = place} {T₀ = T₀} g = ap length g.wrote ∙ length-append (laid T₀) _ ∙ ap (λ k. count T₀ + k) (flat_length (count T₀) place g.tree)
 
--- the second of two operands, as a reading by the reader of the first
-pub second_over : (l : ℕ) {place : ℕ} (r s : Reader) (T₀ T₁ : Table) (g : Grown (operand r.bytes.now (expression r.bytes.now l) (count T₀)) place r s T₀ T₁) → (o : Out BookFault Expr) → operand s.bytes.now (expression s.bytes.now l) (count T₁) s.at (rest s) ≡ o → operand r.bytes.now (expression r.bytes.now l) (count T₀ + size g.tree) s.at (drop s.at r.bytes.now) ≡ o
-second_over l r s T₀ T₁ g o e =
-    let p : s.bytes.now ≡ r.bytes.now = g.step.same in
-    let q : count T₁ ≡ count T₀ + size g.tree = grown_count g in
-    let k : operand s.bytes.now (expression s.bytes.now l) (count T₁) s.at (drop s.at s.bytes.now) ≡ o = e in
-    cc
-
-module _ (l : ℕ) (h : Head) (r : Reader) (T₀ : Table) (place : ℕ) (here : r.at ≡ place + (length (head_word h) + 1)) where
-  pub filled_leaf : (k : LeafOf) → h ≡ Leaf k → (o : Operator) → o ≡ leaf_op k → Filled (operands r.bytes.now (expression r.bytes.now l) h (count T₀)) place r r T₀ T₀ o
+module _ (l : ℕ) (h : Head) (r : Reader) (T₀ : Table) where
+  pub filled_leaf : (k : LeafOf) → h ≡ Leaf k → (o : Operator) → o ≡ leaf_op k → Filled (operands r.bytes.now (expression r.bytes.now l) h (count T₀)) h r r T₀ T₀ o
   filled_leaf k i o q =
       record {
         tree = leaf k;
         step = record { same = refl; says = leaf_ok r.bytes.now (expression r.bytes.now l) h _ _ _ k i };
         is = q ∙ sym (op_leaf k);
-        wrote = sym (append-nil (laid T₀)) ∙ ap (λ ns. laid T₀ ++ ns) (sym (below_leaf (count T₀) place k));
+        wrote = λ place here. sym (append-nil (laid T₀)) ∙ ap (λ ns. laid T₀ ++ ns) (sym (below_leaf (count T₀) place k));
       }
 
-  pub filled_number : (k : NumberedOf) → h ≡ Numbered k → (o : Operator) {v : ℕ} {r₁ r₂ : Reader} → o ≡ numbered_op k v → Stepped (expecting r.bytes.now Space r.at (rest r)) r Space r₁ → Stepped (numbering r₁.bytes.now r₁.at (rest r₁)) r₁ v r₂ → Filled (operands r.bytes.now (expression r.bytes.now l) h (count T₀)) place r r₂ T₀ T₀ o
+  pub filled_number : (k : NumberedOf) → h ≡ Numbered k → (o : Operator) {v : ℕ} {r₁ r₂ : Reader} → o ≡ numbered_op k v → Stepped (expecting r.bytes.now Space r.at (rest r)) r Space r₁ → Stepped (numbering r₁.bytes.now r₁.at (rest r₁)) r₁ v r₂ → Filled (operands r.bytes.now (expression r.bytes.now l) h (count T₀)) h r r₂ T₀ T₀ o
   filled_number k i o {v = v} {r₂ = r₂} q s e =
       let same : r₂.bytes.now ≡ r.bytes.now = e.same ∙ s.same in
       record {
@@ -102,33 +92,35 @@ module _ (l : ℕ) (h : Head) (r : Reader) (T₀ : Table) (place : ℕ) (here : 
           says = rw same (number_ok r.bytes.now (expression r.bytes.now l) h _ _ _ k i (over (λ bs. expecting bs Space) r.bytes.now refl s) (over numbering r.bytes.now s.same e));
         };
         is = q ∙ sym (op_numbered k v);
-        wrote = sym (append-nil (laid T₀)) ∙ ap (λ ns. laid T₀ ++ ns) (sym (below_numbered (count T₀) place k v));
+        wrote = λ place here. sym (append-nil (laid T₀)) ∙ ap (λ ns. laid T₀ ++ ns) (sym (below_numbered (count T₀) place k v));
       }
 
-  pub filled_one : (k : OneOf) → h ≡ One k → (o : Operator) → o ≡ one_op k → {s : Reader} {T₁ : Table} → Grown (operand r.bytes.now (expression r.bytes.now l) (count T₀)) (r.at + 1) r s T₀ T₁ → Filled (operands r.bytes.now (expression r.bytes.now l) h (count T₀)) place r s T₀ T₁ o
+  pub filled_one : (k : OneOf) → h ≡ One k → (o : Operator) → o ≡ one_op k → {s : Reader} {T₁ : Table} → Grown (operand r.bytes.now (expression r.bytes.now l) (count T₀)) (r.at + 1) r s T₀ T₁ → Filled (operands r.bytes.now (expression r.bytes.now l) h (count T₀)) h r s T₀ T₁ o
   filled_one k i o q g =
-      let p : r.at + 1 ≡ past place (one_word k) = omega (arith, here, ap (λ w. length (head_word w)) i) in
       record {
         tree = one k g.tree;
         step = record { same = g.step.same; says = one_ok r.bytes.now (expression r.bytes.now l) h _ _ _ k i g.step.says };
         is = q ∙ sym (op_one k g.tree);
-        wrote = g.wrote ∙ ap (λ a. laid T₀ ++ flat (count T₀) a g.tree) p ∙ ap (λ ns. laid T₀ ++ ns) (sym (below_one (count T₀) place k g.tree));
+        wrote = λ place here.
+            let p : r.at + 1 ≡ past place (one_word k) = omega (arith, here, ap (λ w. length (head_word w)) i) in
+            g.wrote ∙ ap (λ a. laid T₀ ++ flat (count T₀) a g.tree) p ∙ ap (λ ns. laid T₀ ++ ns) (sym (below_one (count T₀) place k g.tree));
       }
 
-  pub filled_two : (k : TwoOf) → h ≡ Two k → (o : Operator) → o ≡ two_op k → (s : Reader) (T₁ : Table) → Grown (operand r.bytes.now (expression r.bytes.now l) (count T₀)) (r.at + 1) r s T₀ T₁ → {t : Reader} {T₂ : Table} → Grown (operand s.bytes.now (expression s.bytes.now l) (count T₁)) (s.at + 1) s t T₁ T₂ → Filled (operands r.bytes.now (expression r.bytes.now l) h (count T₀)) place r t T₀ T₂ o
+  pub filled_two : (k : TwoOf) → h ≡ Two k → (o : Operator) → o ≡ two_op k → (s : Reader) (T₁ : Table) → Grown (operand r.bytes.now (expression r.bytes.now l) (count T₀)) (r.at + 1) r s T₀ T₁ → {t : Reader} {T₂ : Table} → Grown (operand s.bytes.now (expression s.bytes.now l) (count T₁)) (s.at + 1) s t T₁ T₂ → Filled (operands r.bytes.now (expression r.bytes.now l) h (count T₀)) h r t T₀ T₂ o
   filled_two k i o q s T₁ g {t = t} f =
-      let p : r.at + 1 ≡ past place (two_word k) = omega (arith, here, ap (λ w. length (head_word w)) i) in
       let m : s.at ≡ r.at + 1 + width g.tree = operand_moved l (count T₀) r s g.step in
-      let p₂ : s.at + 1 ≡ past place (two_word k) + width g.tree + 1 = omega (arith, m, p) in
-      let same : t.bytes.now ≡ r.bytes.now = f.step.same ∙ g.step.same in
+      let same₁ : s.bytes.now ≡ r.bytes.now = g.step.same in
+      let same : t.bytes.now ≡ r.bytes.now = f.step.same ∙ same₁ in
+      let counted : count T₁ ≡ count T₀ + size g.tree = grown_count g in
+      let read : operand s.bytes.now (expression s.bytes.now l) (count T₁) s.at (drop s.at s.bytes.now) ≡ ok f.tree t.at (drop t.at t.bytes.now) = f.step.says in
+      let second : operand r.bytes.now (expression r.bytes.now l) (count T₀ + size g.tree) s.at (drop s.at r.bytes.now) ≡ ok f.tree t.at (drop t.at r.bytes.now) = cc in
       record {
         tree = two k g.tree f.tree;
-        step = record {
-          same = same;
-          says = rw same (two_ok r.bytes.now (expression r.bytes.now l) h _ _ _ k i (over (λ bs. operand bs (expression bs l) (count T₀)) r.bytes.now refl g.step) (second_over l r s T₀ T₁ g _ f.step.says ∙ ap (λ bs. ok f.tree t.at (drop t.at bs)) same));
-        };
+        step = record { same = same; says = rw same (two_ok r.bytes.now (expression r.bytes.now l) h _ _ _ k i (over (λ bs. operand bs (expression bs l) (count T₀)) r.bytes.now refl g.step) second) };
         is = q ∙ sym (op_two k g.tree f.tree);
-        wrote =
+        wrote = λ place here.
+            let p : r.at + 1 ≡ past place (two_word k) = omega (arith, here, ap (λ w. length (head_word w)) i) in
+            let p₂ : s.at + 1 ≡ past place (two_word k) + width g.tree + 1 = omega (arith, m, p) in
             f.wrote ∙ ap (λ ns. ns ++ flat (count T₁) (s.at + 1) f.tree) g.wrote
             ∙ append_assoc (laid T₀) _ _
             ∙ ap (λ n. laid T₀ ++ (flat (count T₀) (r.at + 1) g.tree ++ flat n (s.at + 1) f.tree)) (grown_count g)
@@ -172,12 +164,12 @@ reserved T₀ T₁ {slot = slot} s l = by_test (ltb (count T₀) 512) refl
     by_test false e = let none : Some slot ≡ None = s ∙ ap (λ b. cond b (Some (count T₀)) None) e in absurd cc
 
 -- the table when the room has been filled
-filled_room : {rd : ℕ → List ℕ → Out BookFault Expr} {place : ℕ} {r s : Reader} {T₀ T₁ T₂ : Table} (T₃ : Table) {slot : ℕ} {x : Operator} → Reserved T₀ T₁ slot → (g : Filled rd place r s T₁ T₂ x) → laid T₃ ≡ set (laid T₂) slot (record { operator = x; end = count T₂; place = place }) → laid T₃ ≡ laid T₀ ++ flat (count T₀) place g.tree
-filled_room {place = place} {T₀ = T₀} {T₁ = T₁} {T₂ = T₂} T₃ {slot = slot} {x = x} v g last =
+filled_room : {rd : ℕ → List ℕ → Out BookFault Expr} {h : Head} {r s : Reader} {T₀ T₁ T₂ : Table} (T₃ : Table) {slot : ℕ} {x : Operator} → Reserved T₀ T₁ slot → (g : Filled rd h r s T₁ T₂ x) → (place : ℕ) → r.at ≡ place + (length (head_word h) + 1) → laid T₃ ≡ set (laid T₂) slot (record { operator = x; end = count T₂; place = place }) → laid T₃ ≡ laid T₀ ++ flat (count T₀) place g.tree
+filled_room {T₀ = T₀} {T₁ = T₁} {T₂ = T₂} T₃ {slot = slot} {x = x} v g place here last =
     let n : ℕ = count T₀ in
     let e : Expr = g.tree in
     let before : laid T₂ ≡ laid T₀ ++ (blank ∷ below (n + 1) place e) =
-    g.wrote ∙ ap (λ ns. ns ++ below (count T₁) place e) v.room ∙ append_assoc (laid T₀) (blank ∷ []) (below (count T₁) place e) ∙ ap (λ k. laid T₀ ++ (blank ∷ below k place e)) v.counted in
+    g.wrote place here ∙ ap (λ ns. ns ++ below (count T₁) place e) v.room ∙ append_assoc (laid T₀) (blank ∷ []) (below (count T₁) place e) ∙ ap (λ k. laid T₀ ++ (blank ∷ below k place e)) v.counted in
     let c : count T₂ ≡ n + size e = ap length before ∙ length-append (laid T₀) (blank ∷ below (n + 1) place e) ∙ ap (λ k. n + k) (omega (arith, below_length (n + 1) place e)) in
     last
     ∙ ap (λ k. set (laid T₂) k (record { operator = x; end = count T₂; place = place })) v.last
@@ -186,41 +178,30 @@ filled_room {place = place} {T₀ = T₀} {T₁ = T₁} {T₂ = T₂} T₃ {slot
     ∙ ap (λ ns. set ns n (root n place e)) before
     ∙ set_at (laid T₀) blank (below (n + 1) place e) (root n place e) n refl
 
--- an expression whose operands have been read
-module _ (l : ℕ) (r : Reader) (T₀ T₁ : Table) (positive : 0 < l) {slot : ℕ} (v : Reserved T₀ T₁ slot) {r₁ r₂ : Reader} {h : Head} (o : Stepped (expecting r.bytes.now Open r.at (rest r)) r Open r₁) (w : Stepped (heading r₁.bytes.now r₁.at (rest r₁)) r₁ h r₂) where
-  same₂ : r₂.bytes.now ≡ r.bytes.now
-  same₂ = w.same ∙ o.same
-
-  inner_over : (e : Out BookFault Expr) → operands r₂.bytes.now (expression r₂.bytes.now (l - 1)) h (count T₁) r₂.at (rest r₂) ≡ e → operands r.bytes.now (expression r.bytes.now (l - 1)) h (count T₀ + 1) r₂.at (drop r₂.at r.bytes.now) ≡ e
-  inner_over e k =
-      let p : r₂.bytes.now ≡ r.bytes.now = same₂ in
-      let q : count T₁ ≡ count T₀ + 1 = v.counted in
-      let i : operands r₂.bytes.now (expression r₂.bytes.now (l - 1)) h (count T₁) r₂.at (drop r₂.at r₂.bytes.now) ≡ e = k in
-      cc
-
-  module _ (r₃ : Reader) {T₂ : Table} {x : Operator} (g : Filled (operands r₂.bytes.now (expression r₂.bytes.now (l - 1)) h (count T₁)) r.at r₂ r₃ T₁ T₂ x) where
-    same₃ : r₃.bytes.now ≡ r.bytes.now
-    same₃ = g.step.same ∙ same₂
-
-    inner_ok : operands r.bytes.now (expression r.bytes.now (l - 1)) h (count T₀ + 1) r₂.at (drop r₂.at r.bytes.now) ≡ ok g.tree r₃.at (drop r₃.at r.bytes.now)
-    inner_ok = inner_over _ g.step.says ∙ ap (λ bs. ok g.tree r₃.at (drop r₃.at bs)) same₃
-
-    pub grown_close_no : {e : ExprFault} → expecting r₃.bytes.now Close r₃.at (rest r₃) ≡ no e → expression r.bytes.now l (count T₀) r.at (rest r) ≡ no (InExpr e)
-    grown_close_no e =
-        expression_some r.bytes.now l _ r.at _ positive
-        ∙ close_no r.bytes.now (inner r.bytes.now (l - 1)) _ _ _ v.few (over (λ bs. expecting bs Open) r.bytes.now refl o) (over heading r.bytes.now o.same w) inner_ok (ap (λ bs. expecting bs Close r₃.at (drop r₃.at bs)) (sym same₃) ∙ e)
-
-    pub grown : {r₄ : Reader} (T₃ : Table) → Stepped (expecting r₃.bytes.now Close r₃.at (rest r₃)) r₃ Close r₄ → laid T₃ ≡ set (laid T₂) slot (record { operator = x; end = count T₂; place = r.at }) → Grown (expression r.bytes.now l (count T₀)) r.at r r₄ T₀ T₃
-    grown {r₄ = r₄} T₃ q last =
-        let same : r₄.bytes.now ≡ r.bytes.now = q.same ∙ same₃ in
-        record {
-          tree = g.tree;
-          step = record {
-            same = same;
-            says =
-                rw same
-                (expression_some r.bytes.now l _ r.at _ positive
-                ∙ close_ok r.bytes.now (inner r.bytes.now (l - 1)) _ _ _ v.few (over (λ bs. expecting bs Open) r.bytes.now refl o) (over heading r.bytes.now o.same w) inner_ok (over (λ bs. expecting bs Close) r.bytes.now same₃ q));
-          };
-          wrote = filled_room T₃ v g last;
-        }
+-- an expression, from its parts
+pub grown : (l : ℕ) → 0 < l → (r : Reader) {r₁ r₂ r₃ s : Reader} {h : Head} {x : Operator} (T₀ T₁ T₂ T : Table) {slot : ℕ} → Reserved T₀ T₁ slot
+    → Stepped (expecting r.bytes.now Open r.at (rest r)) r Open r₁
+    → Stepped (heading r₁.bytes.now r₁.at (rest r₁)) r₁ h r₂
+    → Filled (operands r₂.bytes.now (expression r₂.bytes.now (l - 1)) h (count T₁)) h r₂ r₃ T₁ T₂ x
+    → Stepped (expecting r₃.bytes.now Close r₃.at (rest r₃)) r₃ Close s
+    → laid T ≡ set (laid T₂) slot (record { operator = x; end = count T₂; place = r.at })
+    → Grown (expression r.bytes.now l (count T₀)) r.at r s T₀ T
+grown l positive r {r₂ = r₂} {r₃ = r₃} {s = s} {h = h} T₀ T₁ T₂ T v o w g q last =
+    let bs : List ℕ = r.bytes.now in
+    let same₂ : r₂.bytes.now ≡ bs = w.same ∙ o.same in
+    let same₃ : r₃.bytes.now ≡ bs = g.step.same ∙ same₂ in
+    let same : s.bytes.now ≡ bs = q.same ∙ same₃ in
+    let counted : count T₁ ≡ count T₀ + 1 = v.counted in
+    let read : operands r₂.bytes.now (expression r₂.bytes.now (l - 1)) h (count T₁) r₂.at (drop r₂.at r₂.bytes.now) ≡ ok g.tree r₃.at (drop r₃.at r₃.bytes.now) = g.step.says in
+    let parts : operands bs (expression bs (l - 1)) h (count T₀ + 1) r₂.at (drop r₂.at bs) ≡ ok g.tree r₃.at (drop r₃.at bs) = cc in
+    record {
+      tree = g.tree;
+      step = record {
+        same = same;
+        says =
+            rw same
+            (expression_some bs l _ r.at _ positive
+            ∙ close_ok bs (inner bs (l - 1)) _ _ _ v.few (over (λ bs. expecting bs Open) bs refl o) (over heading bs o.same w) parts (over (λ bs. expecting bs Close) bs same₃ q));
+      };
+      wrote = filled_room T v g r.at (head_place r o w) last;
+    }

@@ -6,7 +6,6 @@ use Rattle.tokens.specs.Spots.{spot}
 use Rattle.tokens.specs.declared.token.Token.{Token}
 use Rattle.tokens.specs.declared.token.Token.TheVariants.{Open, Close, Space}
 use Rattle.grammar.specs.Expr.{Expr, size}
-use Rattle.books.specs.declared.fault.ExprFault.{ExprFault}
 use Rattle.books.specs.declared.fault.ExprFault.TheVariants.{TooDeep}
 use Rattle.books.specs.declared.fault.BookFault.TheVariants.{InExpr}
 use Rattle.books.specs.declared.head.Leaf.{Leaf as LeafOf}
@@ -37,17 +36,9 @@ pub operand_ok : (bs : List ℕ) (rd : ExprReader) (n at : ℕ) (xs : List ℕ) 
 unfolding operand
 operand_ok bs rd n at xs e = inside_ok InExpr _ e
 
--- an expression whose operands have been read
-module _ (bs : List ℕ) (rd : Head → ExprReader) (n at : ℕ) (xs : List ℕ) {m : Token} {h : Head} {f : Expr} {at₁ at₂ at₃ : ℕ} {ys zs ws : List ℕ} (few : n < 512) (o : expecting bs Open at xs ≡ ok m at₁ ys) (w : heading bs at₁ ys ≡ ok h at₂ zs) (p : rd h n at₂ zs ≡ ok f at₃ ws) where
-  closing : bracketed bs rd n at xs ≡ after (inside InExpr (expecting bs Close at₃ ws)) (λ m at₄ vs. ok f at₄ vs)
-  unfolding bracketed
-  closing = inside_ok InExpr _ o ∙ inside_ok InExpr _ w ∙ rw (lt-leb 512 n few) (after_ok _ p)
-
-  pub close_no : {e : ExprFault} → expecting bs Close at₃ ws ≡ no e → bracketed bs rd n at xs ≡ no (InExpr e)
-  close_no e = closing ∙ inside_no InExpr _ e
-
-  pub close_ok : {m : Token} {at₄ : ℕ} {vs : List ℕ} → expecting bs Close at₃ ws ≡ ok m at₄ vs → bracketed bs rd n at xs ≡ ok f at₄ vs
-  close_ok e = closing ∙ inside_ok InExpr _ e
+pub close_ok : (bs : List ℕ) (rd : Head → ExprReader) (n at : ℕ) (xs : List ℕ) {m m' : Token} {h : Head} {f : Expr} {at₁ at₂ at₃ at₄ : ℕ} {ys zs ws vs : List ℕ} → n < 512 → expecting bs Open at xs ≡ ok m at₁ ys → heading bs at₁ ys ≡ ok h at₂ zs → rd h n at₂ zs ≡ ok f at₃ ws → expecting bs Close at₃ ws ≡ ok m' at₄ vs → bracketed bs rd n at xs ≡ ok f at₄ vs
+unfolding bracketed
+close_ok bs rd n at xs few o w p e = inside_ok InExpr _ o ∙ inside_ok InExpr _ w ∙ rw (lt-leb 512 n few) (after_ok _ p ∙ inside_ok InExpr _ e)
 
 abbrev pub deep : List ℕ → ℕ → Head → ExprReader
 deep bs at h m at₂ zs = no (InExpr (TooDeep (spot bs at)))

@@ -9,7 +9,9 @@ use Rattle.grammar.specs.Allowed.{line_width}
 use Rattle.grammar.specs.Tables.{laid, rooted}
 use Rattle.grammar.specs.Layout.{operator_of, below, flat, flats, starts}
 use Rattle.books.specs.declared.fault.BookFault.{BookFault}
+use Rattle.books.specs.declared.head.Head.{Head}
 use Rattle.books.specs.declared.reader.Reader.{Reader}
+use Rattle.books.specs.Heads.{head_word}
 use Rattle.books.specs.Reading.{rule_lines}
 
 -- The bytes from where a reader stands on.
@@ -39,12 +41,12 @@ pub record Grown (rd : ℕ → List ℕ → Out BookFault Expr) (place : ℕ) (r
 abbrev pub Grows : (ℕ → List ℕ → Out BookFault Expr) → ℕ → Reader → Result (Unit {0}) BookFault → Reader → Table → Table → Type 0
 Grows rd place r result s before now = MatchResult result (λ _. Grown rd place r s before now) (λ e. rd r.at (rest r) ≡ no e)
 
--- A reading of the operands of an expression that stands at `place`, which the table has got.
-pub record Filled (rd : ℕ → List ℕ → Out BookFault Expr) (place : ℕ) (r s : Reader) (before now : Table) (operator : Operator) : Type 0 where
+-- A reading of the operands that stand past the word of `head`, which the table has got.
+pub record Filled (rd : ℕ → List ℕ → Out BookFault Expr) (head : Head) (r s : Reader) (before now : Table) (operator : Operator) : Type 0 where
   pub tree : Expr
   pub step : Stepped (rd r.at (rest r)) r tree s
   pub is : operator ≡ operator_of tree
-  pub wrote : laid now ≡ laid before ++ below (count before) place tree
+  pub wrote : (place : ℕ) → r.at ≡ place + (length (head_word head) + 1) → laid now ≡ laid before ++ below (count before) place tree
 
 -- The bytes that rule lines take.
 abbrev pub line_widths : List Expr → ℕ

@@ -1,6 +1,5 @@
-ghost use Rattle.std.specs.Prelude.{◌≡◌, ℕ, ◌+◌, length, MatchResult};
+ghost use Rattle.std.specs.Prelude.{◌≡◌, ◌+◌, MatchResult};
 ghost use Rattle.tokens.specs.Out.{no};
-ghost use Rattle.books.specs.Heads.{head_word};
 ghost use Rattle.books.specs.Reading.{operand, operands, expression};
 ghost use Rattle.books.specs.Steps.{rest, count, Grows, Filled};
 
@@ -38,7 +37,7 @@ impl Reader<'_> {
     #[tactic(auto, unfolding(crate::specs::Reading::operands))]
     fn operands(&mut self, left: u8, head: Head, table: &mut Table) -> Result<Operator, BookFault>
         ensures { MatchResult result
-            (λ operator. ((place : ℕ) → self.old.at ≡ place + (length (head_word head) + 1) → Filled (operands self.old.bytes.now (expression self.old.bytes.now left) head (count table.old)) place self.old self.new table.old table.new operator))
+            (λ operator. Filled (operands self.old.bytes.now (expression self.old.bytes.now left) head (count table.old)) head self.old self.new table.old table.new operator)
             (λ e. operands self.old.bytes.now (expression self.old.bytes.now left) head (count table.old) self.old.at (rest self.old) ≡ no e) }
     {
         match head {

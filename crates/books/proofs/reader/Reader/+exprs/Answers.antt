@@ -1,25 +1,13 @@
 use Rattle.std.proofs.Common.{arith, rules}
 use Rattle.std.proofs.lemmas.Result.{MatchResult-weaker}
 use Rattle.books.specs.Reading.{operands}
-use Rattle.books.proofs.Grows.{head_place, second_over, operand_refused, grown_operand, reserved, filled_leaf, filled_number, filled_one, filled_two, grown_close_no, grown}
+use Rattle.books.proofs.Grows.{grown_count, operand_refused, grown_operand, reserved, filled_leaf, filled_number, filled_one, filled_two, grown}
 use Rattle.books.proofs.reader.Reader.+exprs.Goals as goal
-
-pub expr-returns-in_err-expect-2 : goal.expr-returns-in_err-expect-2
-expr-returns-in_err-expect-2 t c =
-    let v = reserved _ _ c.in-Some.ensures.slot c.in-Some.ensures.laid in
-    let word = c.in_ok-expect.ensures in
-    let rest = c.in_ok-head.ensures in
-    let filled = c.in_ok-operator.ensures c.args.self.now.at (head_place c.args.self.now word rest) in
-    let e = grown_close_no c.args.left c.args.self.now c.args.table.now _ (omega arith) v word rest _ filled c.in_err-expect-2.ensures in
-    search rules
 
 pub expr-returns : goal.expr-returns
 expr-returns t c =
     let v = reserved _ _ c.in-Some.ensures.slot c.in-Some.ensures.laid in
-    let word = c.in_ok-expect.ensures in
-    let rest = c.in_ok-head.ensures in
-    let filled = c.in_ok-operator.ensures c.args.self.now.at (head_place c.args.self.now word rest) in
-    grown c.args.left c.args.self.now c.args.table.now _ (omega arith) v word rest _ filled _ c.in_ok-expect-2.ensures c.fill.ensures
+    grown c.args.left (omega arith) c.args.self.now _ _ _ _ v c.in_ok-expect.ensures c.in_ok-head.ensures c.in_ok-operator.ensures c.in_ok-expect-2.ensures c.fill.ensures
 
 pub operand-returns : goal.operand-returns
 operand-returns t c =
@@ -28,20 +16,18 @@ operand-returns t c =
 
 pub operands-returns-in_err-operand-in-Two-2 : goal.operands-returns-in_err-operand-in-Two-2
 unfolding operands
-operands-returns-in_err-operand-in-Two-2 t c =
-    let e = second_over _ c.args.self.now _ _ _ c.in_ok-operand-in-Two.ensures _ c.in_err-operand-in-Two-2.ensures in
-    search rules
+operands-returns-in_err-operand-in-Two-2 t c = let counted = grown_count c.in_ok-operand-in-Two.ensures in search rules
 
 pub operands-returns-in-Leaf : goal.operands-returns-in-Leaf
-operands-returns-in-Leaf t c = λ place here. filled_leaf _ _ _ _ place here _ c.in-Leaf.is _ c.from.ensures
+operands-returns-in-Leaf t c = filled_leaf _ _ _ _ _ c.in-Leaf.is _ c.from.ensures
 
 pub operands-returns-in_ok-value-in-Numbered : goal.operands-returns-in_ok-value-in-Numbered
 operands-returns-in_ok-value-in-Numbered t c =
-    λ place here. filled_number _ _ _ _ place here _ c.in-Numbered.is _ c.operator.ensures c.in_ok-expect-in-Numbered.ensures c.in_ok-value-in-Numbered.ensures
+    filled_number _ _ _ _ _ c.in-Numbered.is _ c.operator.ensures c.in_ok-expect-in-Numbered.ensures c.in_ok-value-in-Numbered.ensures
 
 pub operands-returns-in_ok-operand-in-One : goal.operands-returns-in_ok-operand-in-One
-operands-returns-in_ok-operand-in-One t c = λ place here. filled_one _ _ _ _ place here _ c.in-One.is _ c.from-in-One.ensures c.in_ok-operand-in-One.ensures
+operands-returns-in_ok-operand-in-One t c = filled_one _ _ _ _ _ c.in-One.is _ c.from-in-One.ensures c.in_ok-operand-in-One.ensures
 
 pub operands-returns-in_ok-operand-in-Two-2 : goal.operands-returns-in_ok-operand-in-Two-2
 operands-returns-in_ok-operand-in-Two-2 t c =
-    λ place here. filled_two _ _ _ _ place here _ c.in-Two.is _ c.from-in-Two.ensures _ _ c.in_ok-operand-in-Two.ensures c.in_ok-operand-in-Two-2.ensures
+    filled_two _ _ _ _ _ c.in-Two.is _ c.from-in-Two.ensures _ _ c.in_ok-operand-in-Two.ensures c.in_ok-operand-in-Two-2.ensures
