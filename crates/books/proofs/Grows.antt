@@ -27,7 +27,7 @@ use Rattle.books.specs.Steps.{rest, Stepped, count, Grown, Filled}
 use Rattle.books.proofs.Lexed.{Gives, given, Lexed}
 use Rattle.books.proofs.Heads.{op_leaf, below_leaf, op_numbered, below_numbered, op_one, below_one, op_two, below_two}
 use Rattle.books.proofs.Sound.{expecting_gives, head_gives, operand_sound, expression_sound}
-use Rattle.books.proofs.Outs.{operand_ok, leaf_ok, number_ok, one_ok, two_ok, close_ok, inner, expression_some}
+use Rattle.books.proofs.Outs.{operand_ok, leaf_ok, number_ok, one_ok, two_ok, close_ok, inner, expression_none, expression_some}
 
 given_back : {E A : Type 0} {P : A → ℕ → List ℕ → Type 0} {a : A} {at : ℕ} {xs : List ℕ} → Gives {E = E} P (ok a at xs) → P a at xs
 given_back (given p) = p
@@ -162,6 +162,9 @@ reserved T₀ T₁ {slot = slot} s l = by_test (ltb (count T₀) 512) refl
         let room : laid T₁ ≡ laid T₀ ++ (blank ∷ []) = l ∙ ap (λ b. cond b (laid T₀ ++ (blank ∷ [])) (laid T₀)) e in
         record { few = ltb-true (count T₀) 512 e; last = cc; room = room; counted = ap length room ∙ length-append (laid T₀) (blank ∷ []) }
     by_test false e = let none : Some slot ≡ None = s ∙ ap (λ b. cond b (Some (count T₀)) None) e in absurd cc
+
+-- what the refusals of an expression stand on
+pub ruleset expr_steps = (expression_none, expression_some, reserved)
 
 -- the table when the room has been filled
 filled_room : {rd : ℕ → List ℕ → Out BookFault Expr} {h : Head} {r s : Reader} {T₀ T₁ T₂ : Table} (T₃ : Table) {slot : ℕ} {x : Operator} → Reserved T₀ T₁ slot → (g : Filled rd h r s T₁ T₂ x) → (place : ℕ) → r.at ≡ place + (length (head_word h) + 1) → laid T₃ ≡ set (laid T₂) slot (record { operator = x; end = count T₂; place = place }) → laid T₃ ≡ laid T₀ ++ flat (count T₀) place g.tree

@@ -1,6 +1,7 @@
 -- The definitions of lines, read one step at a time.
-use Rattle.std.proofs.Common.{◌≡◌, ℕ, zero, suc, ◌+◌, ◌<◌, Bool, true, List, [], ◌∷◌, ◌++◌, ap, ◌∙◌, arith}
-use Rattle.std.proofs.lemmas.Bool.{ne_eqb}
+use Rattle.std.proofs.Common.{◌≡◌, ℕ, zero, suc, ◌+◌, ◌<◌, Bool, true, cond, ltb, List, [], ◌∷◌, ◌++◌, length, ap, ◌∙◌, arith}
+use Rattle.std.proofs.lemmas.Bool.{ne_eqb, lt-ltb}
+use Rattle.std.proofs.lemmas.List.{length_push}
 use Rattle.kinds.specs.declared.class.Class.{Class}
 use Rattle.tokens.specs.Out.{Out, ok, no}
 use Rattle.tokens.specs.Spots.{spot}
@@ -64,6 +65,13 @@ module _ (bs : List ℕ) (lawful : Class → Bool) (cs : List Class) (at : ℕ) 
     classes_on (suc left) j h {c = c} {b = b} {zs = zs} e =
         let q : left ≡ j = omega arith in
         inside_ok InExpr _ (named o i) ∙ after_ok _ e ∙ ap (λ k. class_lines bs lawful k (cs ++ (c ∷ [])) b zs) q
+
+-- what a list is after a push that had room
+pub pushed : {X : Type 0} (most : ℕ) (xs ys : List X) (x : X) → length xs < most → ys ≡ cond (ltb (length xs) most) (xs ++ (x ∷ [])) xs → ys ≡ xs ++ (x ∷ [])
+pushed most xs ys x h e = e ∙ ap (λ t. cond t (xs ++ (x ∷ [])) xs) (lt-ltb (length xs) most h)
+
+-- the steps of the loop over class lines
+pub ruleset class_steps = (classes_start_no, classes_end, classes_many, classes_no, classes_on, pushed, length_push)
 
 pub rules_no : (bs : List ℕ) (left : ℕ) (es : List Expr) (n at : ℕ) (xs : List ℕ) {e : BookFault} → rule_line bs left n at xs ≡ no e → rule_lines bs left es n at xs ≡ no e
 unfolding rule_lines

@@ -1,6 +1,5 @@
 -- Rule lines that have been read stand in the tables.
 use Rattle.std.proofs.Common.{◌≡◌, ℕ, suc, ◌+◌, ◌-◌, ◌<◌, cond, ltb, List, [], ◌∷◌, ◌++◌, length, codes, sym, refl, ap, ◌∙◌, append_assoc, zero-add, arith, length-append, length-drop}
-use Rattle.std.proofs.lemmas.Bool.{lt-ltb}
 use Rattle.std.proofs.lemmas.List.{append-nil, length_push}
 use Rattle.tokens.specs.Out.{Out, ok, no}
 use Rattle.tokens.specs.declared.token.Word.TheVariants.{Rule}
@@ -17,13 +16,9 @@ use Rattle.books.specs.declared.reader.Reader.{Reader}
 use Rattle.books.specs.Reading.{expecting, operand, expression, rule_line, onward, rule_lines}
 use Rattle.books.specs.Steps.{rest, Stepped, count, Grown, line_widths, Begun, Ruled}
 use Rattle.books.proofs.Grows.{given_at, over, moved, lexed, grown_count}
-use Rattle.books.proofs.Rows.{line_ok, rules_no, rules_on}
+use Rattle.books.proofs.Rows.{pushed, line_ok, rules_no, rules_on}
 use Rattle.books.proofs.Sound.{rule_gives}
 use Rattle.books.proofs.Spelled.{line_sound}
-
--- what a list is after a push that had room
-pub pushed : {X : Type 0} (most : ℕ) (xs ys : List X) (x : X) → length xs < most → ys ≡ cond (ltb (length xs) most) (xs ++ (x ∷ [])) xs → ys ≡ xs ++ (x ∷ [])
-pushed most xs ys x h e = e ∙ ap (λ t. cond t (xs ++ (x ∷ [])) xs) (lt-ltb (length xs) most h)
 
 -- a rule line, from its parts
 pub grown_line : (left : ℕ) → 0 < left → (r : Reader) {r₁ r₂ r₃ r₄ s : Reader} (T T' : Table)

@@ -12,7 +12,7 @@ use tokens::Token;
 impl Reader<'_> {
     // Reads an expression nested at most `left` deep into the table.
     #[cycle(exprs)]
-    #[tactic(auto, using(crate::proofs::Outs::expression_none, crate::proofs::Outs::expression_some, crate::proofs::Grows::reserved), unfolding(crate::specs::Reading::bracketed))]
+    #[tactic(auto, using(crate::proofs::Grows::expr_steps), unfolding(crate::specs::Reading::bracketed))]
     fn expr(&mut self, left: u8, table: &mut Table) -> Result<(), BookFault>
         ensures { Grows (expression self.old.bytes.now left (count table.old)) self.old.at self.old result self.new table.old table.new }
     {

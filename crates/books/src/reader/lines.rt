@@ -52,7 +52,7 @@ impl Reader<'_> {
     }
 
     // Reads the class lines, up to the first rule line.
-    #[tactic(auto, using(crate::proofs::Rows::classes_start_no, crate::proofs::Rows::classes_end, crate::proofs::Rows::classes_many, crate::proofs::Rows::classes_no, crate::proofs::Rows::classes_on, crate::proofs::Ruled::pushed, std::proofs::lemmas::List::length_push))]
+    #[tactic(auto, using(crate::proofs::Rows::class_steps))]
     pub(crate) fn classes<K: Kind>(&mut self, kind: &K) -> Result<Classes, BookFault>
         ensures { MatchResult result
             (λ classes. Stepped (class_lines self.old.bytes.now (K.Kind.lawful kind.now) 64 [] self.old.at (rest self.old)) self.old (listed classes) self.new)
