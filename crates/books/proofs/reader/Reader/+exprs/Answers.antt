@@ -1,8 +1,18 @@
 use Rattle.std.proofs.Common.{arith, rules}
 use Rattle.std.proofs.lemmas.Result.{MatchResult-weaker}
-use Rattle.books.specs.Reading.{operands}
+use Rattle.std.proofs.lemmas.Grind.{common_steps}
+use Rattle.books.specs.Reading.{bracketed, operands}
+use Rattle.books.specs.Steps.{rest, count}
+use Rattle.books.proofs.Outs.{expression_some}
 use Rattle.books.proofs.Grows.{grown_count, operand_refused, grown_operand, reserved, filled_leaf, filled_number, filled_one, filled_two, grown}
 use Rattle.books.proofs.reader.Reader.+exprs.Goals as goal
+
+pub expr-returns-in_err-expect-2 : goal.expr-returns-in_err-expect-2
+unfolding bracketed
+expr-returns-in_err-expect-2 t c =
+    let v = reserved _ _ c.in-Some.ensures.slot c.in-Some.ensures.laid in
+    let e = expression_some c.args.self.now.bytes.now c.args.left (count c.args.table.now) c.args.self.now.at (rest c.args.self.now) (omega arith) in
+    grind (arith, common_steps)
 
 pub expr-returns : goal.expr-returns
 expr-returns t c =
