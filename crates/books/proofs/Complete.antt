@@ -26,10 +26,9 @@ use Rattle.books.specs.declared.head.Head.{Head}
 use Rattle.books.specs.declared.head.Head.TheVariants.{Leaf, Numbered, One, Two}
 use Rattle.books.specs.declared.head.LineWord.TheVariants.{Class as ClassLine, Rule as RuleLine}
 use Rattle.books.specs.Heads.{leaf, numbered, one, two, leaf_word, numbered_word, one_word, two_word}
-use Rattle.books.specs.Tests.{is_open, is_close, is_space, is_feed, is_rule}
-use Rattle.books.specs.Reading.{expecting, valued, numbering, heading, operand, operands, expression, line_heading}
+use Rattle.books.specs.Reading.{ExprReader, expecting, valued, numbering, heading, operand, operands, bracketed, expression, line_heading}
 use Rattle.books.proofs.Lexed.{own}
-use Rattle.books.proofs.Outs.{operand_ok, leaf_ok, number_ok, one_ok, two_ok, close_ok, inner}
+use Rattle.books.proofs.Outs.{operand_ok, leaf_ok, number_ok, one_ok, two_ok, close_ok}
 
 -- What is read, at some place.
 abbrev pub Reads : {E A : Type 0} → Out E A → A → List ℕ → Type 0
@@ -44,23 +43,23 @@ run_digits (d ∷ ds) x r a e =
 
 module _ (bs : List ℕ) where
   module _ (at : ℕ) (r : List ℕ) where
-    pub open_there : expecting bs is_open at (40 ∷ r) ≡ ok Open (at + 1) r
+    pub open_there : expecting bs Open at (40 ∷ r) ≡ ok Open (at + 1) r
     unfolding expecting
     open_there = refl
 
-    pub close_there : expecting bs is_close at (41 ∷ r) ≡ ok Close (at + 1) r
+    pub close_there : expecting bs Close at (41 ∷ r) ≡ ok Close (at + 1) r
     unfolding expecting
     close_there = refl
 
-    pub space_there : expecting bs is_space at (32 ∷ r) ≡ ok Space (at + 1) r
+    pub space_there : expecting bs Space at (32 ∷ r) ≡ ok Space (at + 1) r
     unfolding expecting
     space_there = refl
 
-    pub feed_there : expecting bs is_feed at (10 ∷ r) ≡ ok Feed (at + 1) r
+    pub feed_there : expecting bs Feed at (10 ∷ r) ≡ ok Feed (at + 1) r
     unfolding expecting
     feed_there = refl
 
-    pub rule_there : Reads (expecting bs is_rule at (codes "rule" ++ (32 ∷ r))) (Letters Rule) (32 ∷ r)
+    pub rule_there : Reads (expecting bs (Letters Rule) at (codes "rule" ++ (32 ∷ r))) (Letters Rule) (32 ∷ r)
     unfolding expecting
     rule_there = (_, refl)
 
@@ -121,57 +120,66 @@ module _ (bs : List ℕ) where
       let h : v < 2 ^ 64 = omega arith in
       number_read at v x (decimal v) r b (digits_decimal own v h) (digits_value-decimal own v h) (decimal_nonempty v h) (zero_alone v small) small
 
-  -- an expression's word, its operands and its end are there
-  framed : (l n at : ℕ) (xs : List ℕ) {h : Head} {at₂ : ℕ} {zs : List ℕ} (e : Expr) {at₃ : ℕ} (r : List ℕ) → n < 512 → heading bs (at + 1) xs ≡ ok h at₂ zs → operands bs (expression bs l) h (n + 1) at₂ zs ≡ ok e at₃ (41 ∷ r) → Reads (expression bs (suc l) n at (40 ∷ xs)) e r
-  unfolding expression
-  framed l n at xs e r few w p = (_, close_ok bs (inner bs l) n at (40 ∷ xs) (open_there at xs) w few p (close_there _ r))
+-- An expression in its brackets, by a reader of its operands, which counts from f n on where n stand before it.
+abbrev pub bracketed_by : List ℕ → ExprReader → (ℕ → ℕ) → ExprReader
+bracketed_by bs rd f = bracketed bs (λ h m b zs. operands bs rd h (f m) b zs)
 
-  pub operand_there : (l n at : ℕ) (xs : List ℕ) (e : Expr) (r : List ℕ) → ((b : ℕ) → Reads (expression bs l n b xs) e r) → Reads (operand bs (expression bs l) n at (32 ∷ xs)) e r
-  operand_there l n at xs e r h = let p = h (at + 1) in (p.0, operand_ok bs (expression bs l) n at (32 ∷ xs) (space_there at xs) ∙ p.1)
+pub operand_there : (bs : List ℕ) (rd : ExprReader) (n at : ℕ) (xs : List ℕ) (e : Expr) (r : List ℕ) → ((b : ℕ) → Reads (rd n b xs) e r) → Reads (operand bs rd n at (32 ∷ xs)) e r
+operand_there bs rd n at xs e r h = let p = h (at + 1) in (p.0, operand_ok bs rd n at (32 ∷ xs) (space_there bs at xs) ∙ p.1)
 
-  by_leaf : (k : LeafOf) (l n at : ℕ) (r : List ℕ) → n < 512 → Reads (expression bs (suc l) n at (40 ∷ (leaf_word k ++ (41 ∷ r)))) (leaf k) r
-  by_leaf k l n at r few =
-      let w = leaf_there (at + 1) r k in
-      framed l n at _ (leaf k) r few w.1 (leaf_ok bs (expression bs l) (Leaf k) _ _ _ k refl)
+-- its word, its operands and its end are there
+module _ (bs : List ℕ) (rd : ExprReader) (f : ℕ → ℕ) where
+  framed : (n at : ℕ) (xs : List ℕ) {h : Head} {at₂ : ℕ} {zs : List ℕ} (e : Expr) {at₃ : ℕ} (r : List ℕ) → n < 512 → heading bs (at + 1) xs ≡ ok h at₂ zs → operands bs rd h (f n) at₂ zs ≡ ok e at₃ (41 ∷ r) → Reads (bracketed_by bs rd f n at (40 ∷ xs)) e r
+  framed n at xs e r few w p = (_, close_ok bs (λ h m b zs. operands bs rd h (f m) b zs) n at (40 ∷ xs) few (open_there bs at xs) w p (close_there bs _ r))
 
-  by_number : (k : NumberedOf) (v l n at : ℕ) (r : List ℕ) → n < 512 → v ≤ 4294967295 → Reads (expression bs (suc l) n at (40 ∷ (numbered_word k ++ (32 ∷ (decimal v ++ (41 ∷ r)))))) (numbered k v) r
-  by_number k v l n at r few small =
-      let w = numbered_there (at + 1) (decimal v ++ (41 ∷ r)) k in
-      let q = number_there (w.0 + 1) v 41 r refl small in
-      framed l n at _ (numbered k v) r few w.1 (number_ok bs (expression bs l) (Numbered k) _ _ _ k refl (space_there _ _) q.1)
+  pub by_leaf : (k : LeafOf) (n at : ℕ) (r : List ℕ) → n < 512 → Reads (bracketed_by bs rd f n at (40 ∷ (leaf_word k ++ (41 ∷ r)))) (leaf k) r
+  by_leaf k n at r few =
+      let w = leaf_there bs (at + 1) r k in
+      framed n at _ (leaf k) r few w.1 (leaf_ok bs rd (Leaf k) _ _ _ k refl)
 
-  by_one : (k : OneOf) (a : Expr) (l n at : ℕ) (r : List ℕ) → n < 512 → ((b : ℕ) → Reads (expression bs l (n + 1) b (spell a (41 ∷ r))) a (41 ∷ r)) → Reads (expression bs (suc l) n at (40 ∷ (one_word k ++ (32 ∷ spell a (41 ∷ r))))) (one k a) r
-  by_one k a l n at r few h =
-      let w = one_there (at + 1) (spell a (41 ∷ r)) k in
-      let p = operand_there l (n + 1) w.0 _ a (41 ∷ r) h in
-      framed l n at _ (one k a) r few w.1 (one_ok bs (expression bs l) (One k) _ _ _ k refl p.1)
+  pub by_number : (k : NumberedOf) (v n at : ℕ) (r : List ℕ) → n < 512 → v ≤ 4294967295 → Reads (bracketed_by bs rd f n at (40 ∷ (numbered_word k ++ (32 ∷ (decimal v ++ (41 ∷ r)))))) (numbered k v) r
+  by_number k v n at r few small =
+      let w = numbered_there bs (at + 1) (decimal v ++ (41 ∷ r)) k in
+      let q = number_there bs (w.0 + 1) v 41 r refl small in
+      framed n at _ (numbered k v) r few w.1 (number_ok bs rd (Numbered k) _ _ _ k refl (space_there bs _ _) q.1)
 
-  by_two : (k : TwoOf) (a b : Expr) (l n at : ℕ) (r : List ℕ) → n < 512
-      → ((i : ℕ) → Reads (expression bs l (n + 1) i (spell a (32 ∷ spell b (41 ∷ r)))) a (32 ∷ spell b (41 ∷ r)))
-      → ((i : ℕ) → Reads (expression bs l (n + 1 + size a) i (spell b (41 ∷ r))) b (41 ∷ r))
-      → Reads (expression bs (suc l) n at (40 ∷ (two_word k ++ (32 ∷ spell a (32 ∷ spell b (41 ∷ r)))))) (two k a b) r
-  by_two k a b l n at r few f g =
-      let w = two_there (at + 1) (spell a (32 ∷ spell b (41 ∷ r))) k in
-      let p = operand_there l (n + 1) w.0 _ a (32 ∷ spell b (41 ∷ r)) f in
-      let q = operand_there l (n + 1 + size a) p.0 _ b (41 ∷ r) g in
-      framed l n at _ (two k a b) r few w.1 (two_ok bs (expression bs l) (Two k) _ _ _ k refl p.1 q.1)
+  pub by_one : (k : OneOf) (a : Expr) (n at : ℕ) (r : List ℕ) → n < 512 → ((b : ℕ) → Reads (rd (f n) b (spell a (41 ∷ r))) a (41 ∷ r)) → Reads (bracketed_by bs rd f n at (40 ∷ (one_word k ++ (32 ∷ spell a (41 ∷ r))))) (one k a) r
+  by_one k a n at r few h =
+      let w = one_there bs (at + 1) (spell a (41 ∷ r)) k in
+      let p = operand_there bs rd (f n) w.0 _ a (41 ∷ r) h in
+      framed n at _ (one k a) r few w.1 (one_ok bs rd (One k) _ _ _ k refl p.1)
 
+  pub by_two : (k : TwoOf) (a b : Expr) (n at : ℕ) (r : List ℕ) → n < 512
+      → ((i : ℕ) → Reads (rd (f n) i (spell a (32 ∷ spell b (41 ∷ r)))) a (32 ∷ spell b (41 ∷ r)))
+      → ((i : ℕ) → Reads (rd (f n + size a) i (spell b (41 ∷ r))) b (41 ∷ r))
+      → Reads (bracketed_by bs rd f n at (40 ∷ (two_word k ++ (32 ∷ spell a (32 ∷ spell b (41 ∷ r)))))) (two k a b) r
+  by_two k a b n at r few g h =
+      let w = two_there bs (at + 1) (spell a (32 ∷ spell b (41 ∷ r))) k in
+      let p = operand_there bs rd (f n) w.0 _ a (32 ∷ spell b (41 ∷ r)) g in
+      let q = operand_there bs rd (f n + size a) p.0 _ b (41 ∷ r) h in
+      framed n at _ (two k a b) r few w.1 (two_ok bs rd (Two k) _ _ _ k refl p.1 q.1)
+
+pub some_nesting : (e : Expr) → 0 < nesting e
+some_nesting empty = omega arith
+some_nesting any = omega arith
+some_nesting (term v) = omega arith
+some_nesting (call v) = omega arith
+some_nesting (seq a b) = omega arith
+some_nesting (alt a b) = omega arith
+some_nesting (star a) = omega arith
+some_nesting (not a) = omega arith
+
+module _ (bs : List ℕ) where
   pub expression_complete : (e : Expr) (l n at : ℕ) (r : List ℕ) → nesting e ≤ l → n + size e ≤ 512 → NumbersFit e → Reads (expression bs l n at (spell e r)) e r
-  expression_complete empty zero n at r d s m = absurd (omega arith)
-  expression_complete any zero n at r d s m = absurd (omega arith)
-  expression_complete (term v) zero n at r d s m = absurd (omega arith)
-  expression_complete (call v) zero n at r d s m = absurd (omega arith)
-  expression_complete (seq a b) zero n at r d s m = absurd (omega arith)
-  expression_complete (alt a b) zero n at r d s m = absurd (omega arith)
-  expression_complete (star a) zero n at r d s m = absurd (omega arith)
-  expression_complete (not a) zero n at r d s m = absurd (omega arith)
-  expression_complete empty (suc l) n at r d s m = by_leaf Empty l n at r (omega arith)
-  expression_complete any (suc l) n at r d s m = by_leaf Any l n at r (omega arith)
-  expression_complete (term v) (suc l) n at r d s m = by_number Term v l n at r (omega arith) m
-  expression_complete (call v) (suc l) n at r d s m = by_number Call v l n at r (omega arith) m
+  unfolding expression
+  expression_complete e zero n at r d s m = absurd (omega (arith, some_nesting e))
+  expression_complete empty (suc l) n at r d s m = by_leaf bs (expression bs l) (λ k. k + 1) Empty n at r (omega arith)
+  expression_complete any (suc l) n at r d s m = by_leaf bs (expression bs l) (λ k. k + 1) Any n at r (omega arith)
+  expression_complete (term v) (suc l) n at r d s m = by_number bs (expression bs l) (λ k. k + 1) Term v n at r (omega arith) m
+  expression_complete (call v) (suc l) n at r d s m = by_number bs (expression bs l) (λ k. k + 1) Call v n at r (omega arith) m
   expression_complete (seq a b) (suc l) n at r d s m =
-      by_two Seq a b l n at r (omega arith) (λ i. expression_complete a l (n + 1) i _ (omega arith) (omega arith) m.0) (λ i. expression_complete b l (n + 1 + size a) i _ (omega arith) (omega arith) m.1)
+      by_two bs (expression bs l) (λ k. k + 1) Seq a b n at r (omega arith) (λ i. expression_complete a l (n + 1) i _ (omega arith) (omega arith) m.0) (λ i. expression_complete b l (n + 1 + size a) i _ (omega arith) (omega arith) m.1)
   expression_complete (alt a b) (suc l) n at r d s m =
-      by_two Alt a b l n at r (omega arith) (λ i. expression_complete a l (n + 1) i _ (omega arith) (omega arith) m.0) (λ i. expression_complete b l (n + 1 + size a) i _ (omega arith) (omega arith) m.1)
-  expression_complete (star a) (suc l) n at r d s m = by_one Star a l n at r (omega arith) (λ i. expression_complete a l (n + 1) i _ (omega arith) (omega arith) m)
-  expression_complete (not a) (suc l) n at r d s m = by_one Not a l n at r (omega arith) (λ i. expression_complete a l (n + 1) i _ (omega arith) (omega arith) m)
+      by_two bs (expression bs l) (λ k. k + 1) Alt a b n at r (omega arith) (λ i. expression_complete a l (n + 1) i _ (omega arith) (omega arith) m.0) (λ i. expression_complete b l (n + 1 + size a) i _ (omega arith) (omega arith) m.1)
+  expression_complete (star a) (suc l) n at r d s m = by_one bs (expression bs l) (λ k. k + 1) Star a n at r (omega arith) (λ i. expression_complete a l (n + 1) i _ (omega arith) (omega arith) m)
+  expression_complete (not a) (suc l) n at r d s m = by_one bs (expression bs l) (λ k. k + 1) Not a n at r (omega arith) (λ i. expression_complete a l (n + 1) i _ (omega arith) (omega arith) m)

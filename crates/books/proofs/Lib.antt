@@ -6,6 +6,7 @@ pub mod Grows
 pub mod Complete
 pub mod Rows
 pub mod Spelled
+pub mod Ruled
 pub mod Once
 pub mod Verdicts
 pub mod Tabled

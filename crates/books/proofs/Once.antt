@@ -1,36 +1,25 @@
 -- No two grammars are spelled the same: a reader that keeps no counts gives back what was spelled.
-use Rattle.std.proofs.Common.{◌≡◌, ℕ, zero, suc, ◌+◌, ◌≤◌, max, false, List, [], ◌∷◌, ◌++◌, get_or, drop, decimal, sym, refl, ap, ◌∙◌, ap₂, arith}
+use Rattle.std.proofs.Common.{◌≡◌, ℕ, zero, suc, ◌≤◌, max, false, List, [], ◌∷◌, ◌++◌, get_or, drop, decimal, sym, refl, ap, ◌∙◌, ap₂, arith}
 use Rattle.kinds.specs.declared.class.Class.{Class}
 use Rattle.tokens.specs.Out.{Out, ok, no}
 use Rattle.tokens.specs.Spots.{spot}
 use Rattle.tokens.specs.Lexing.{digit}
-use Rattle.grammar.specs.Expr.{Expr, empty, any, term, call, seq, alt, star, not, Grammar, size, nesting}
+use Rattle.grammar.specs.Expr.{Expr, empty, any, term, call, seq, alt, star, not, Grammar, nesting}
 use Rattle.grammar.specs.Spelling.{spell, spell_class, spell_rule, spell_classes, spell_rules, spelling}
 use Rattle.grammar.specs.Allowed.{Each, Fits, ClassFits, NumbersFit}
 use Rattle.books.specs.declared.fault.BookFault.TheVariants.{InExpr}
 use Rattle.books.specs.declared.fault.ExprFault.TheVariants.{TooDeep}
-use Rattle.books.specs.declared.head.Leaf.{Leaf as LeafOf}
 use Rattle.books.specs.declared.head.Leaf.TheVariants.{Empty, Any}
-use Rattle.books.specs.declared.head.Numbered.{Numbered as NumberedOf}
 use Rattle.books.specs.declared.head.Numbered.TheVariants.{Term, Call}
-use Rattle.books.specs.declared.head.One.{One as OneOf}
 use Rattle.books.specs.declared.head.One.TheVariants.{Star, Not}
-use Rattle.books.specs.declared.head.Two.{Two as TwoOf}
 use Rattle.books.specs.declared.head.Two.TheVariants.{Seq, Alt}
-use Rattle.books.specs.declared.head.Head.{Head}
-use Rattle.books.specs.declared.head.Head.TheVariants.{Leaf, Numbered, One, Two}
-use Rattle.books.specs.Heads.{leaf, numbered, one, two, leaf_word, numbered_word, one_word, two_word}
-use Rattle.books.specs.Reading.{numbering, heading, operand, operands, bracketed, Reader}
+use Rattle.books.specs.Reading.{numbering, operands, bracketed, ExprReader}
 use Rattle.books.specs.Verdict.{Writable}
-use Rattle.books.proofs.Outs.{operand_ok, leaf_ok, number_ok, one_ok, two_ok, close_ok}
-use Rattle.books.proofs.Complete.{Reads, open_there, close_there, space_there, leaf_there, numbered_there, one_there, two_there, number_there}
+use Rattle.books.proofs.Complete.{Reads, number_there, by_leaf, by_number, by_one, by_two, some_nesting}
 
 -- what was read, and what it left, are settled by the bytes
 read_once : {E A : Type 0} {o : Out E A} {a b : A} {i j : ℕ} {xs ys : List ℕ} → o ≡ ok a i xs → o ≡ ok b j ys → (a ≡ b) × (xs ≡ ys)
-read_once {E = E} {A = A} p q = inj (sym p ∙ q)
-  where
-    inj : {a b : A} {i j : ℕ} {xs ys : List ℕ} → ◌≡◌ {A = Out E A} (ok a i xs) (ok b j ys) → (a ≡ b) × (xs ≡ ys)
-    inj e = (cc, cc)
+read_once p q = (cc, cc)
 
 -- a number, and what stands after the byte that ends it
 number_once : (v w x : ℕ) (r s : List ℕ) → digit x ≡ false → Fits v → Fits w → decimal v ++ (x ∷ r) ≡ decimal w ++ (x ∷ s) → (v ≡ w) × (r ≡ s)
@@ -39,7 +28,7 @@ number_once v w x r s b m n e =
     (p.0, ap (drop 1) p.1)
 
 -- An expression nested at most l deep, however many expressions it is made of.
-unfoldable uncounted : ℕ → Reader
+unfoldable uncounted : ℕ → ExprReader
 uncounted zero n at xs = no (InExpr (TooDeep (spot [] at)))
 uncounted (suc l) n at xs = bracketed [] (operands [] (uncounted l)) 0 at xs
 
@@ -47,55 +36,18 @@ uncounted (suc l) n at xs = bracketed [] (operands [] (uncounted l)) 0 at xs
 abbrev Back : ℕ → List ℕ → Expr → List ℕ → Type 0
 Back l xs e r = (n at : ℕ) → Reads (uncounted l n at xs) e r
 
-framed : (l n at : ℕ) (xs : List ℕ) {h : Head} {at₂ : ℕ} {zs : List ℕ} (e : Expr) {at₃ : ℕ} (r : List ℕ) → heading [] (at + 1) xs ≡ ok h at₂ zs → operands [] (uncounted l) h 0 at₂ zs ≡ ok e at₃ (41 ∷ r) → Reads (uncounted (suc l) n at (40 ∷ xs)) e r
-unfolding uncounted
-framed l n at xs e r w p = (_, close_ok [] (operands [] (uncounted l)) 0 at (40 ∷ xs) (open_there [] at xs) w (omega arith) p (close_there [] _ r))
-
-operand_back : (l n at : ℕ) (xs : List ℕ) (e : Expr) (r : List ℕ) → Back l xs e r → Reads (operand [] (uncounted l) n at (32 ∷ xs)) e r
-operand_back l n at xs e r h = let p = h n (at + 1) in (p.0, operand_ok [] (uncounted l) n at (32 ∷ xs) (space_there [] at xs) ∙ p.1)
-
-by_leaf : (k : LeafOf) (l : ℕ) (r : List ℕ) → Back (suc l) (40 ∷ (leaf_word k ++ (41 ∷ r))) (leaf k) r
-by_leaf k l r n at =
-    let w = leaf_there [] (at + 1) r k in
-    framed l n at _ (leaf k) r w.1 (leaf_ok [] (uncounted l) (Leaf k) _ _ _ k refl)
-
-by_number : (k : NumberedOf) (v l : ℕ) (r : List ℕ) → Fits v → Back (suc l) (40 ∷ (numbered_word k ++ (32 ∷ (decimal v ++ (41 ∷ r))))) (numbered k v) r
-by_number k v l r small n at =
-    let w = numbered_there [] (at + 1) (decimal v ++ (41 ∷ r)) k in
-    let q = number_there [] (w.0 + 1) v 41 r refl small in
-    framed l n at _ (numbered k v) r w.1 (number_ok [] (uncounted l) (Numbered k) _ _ _ k refl (space_there [] _ _) q.1)
-
-by_one : (k : OneOf) (a : Expr) (l : ℕ) (r : List ℕ) → Back l (spell a (41 ∷ r)) a (41 ∷ r) → Back (suc l) (40 ∷ (one_word k ++ (32 ∷ spell a (41 ∷ r)))) (one k a) r
-by_one k a l r h n at =
-    let w = one_there [] (at + 1) (spell a (41 ∷ r)) k in
-    let p = operand_back l 0 w.0 _ a (41 ∷ r) h in
-    framed l n at _ (one k a) r w.1 (one_ok [] (uncounted l) (One k) _ _ _ k refl p.1)
-
-by_two : (k : TwoOf) (a b : Expr) (l : ℕ) (r : List ℕ) → Back l (spell a (32 ∷ spell b (41 ∷ r))) a (32 ∷ spell b (41 ∷ r)) → Back l (spell b (41 ∷ r)) b (41 ∷ r) → Back (suc l) (40 ∷ (two_word k ++ (32 ∷ spell a (32 ∷ spell b (41 ∷ r))))) (two k a b) r
-by_two k a b l r f g n at =
-    let w = two_there [] (at + 1) (spell a (32 ∷ spell b (41 ∷ r))) k in
-    let p = operand_back l 0 w.0 _ a (32 ∷ spell b (41 ∷ r)) f in
-    let q = operand_back l (0 + size a) p.0 _ b (41 ∷ r) g in
-    framed l n at _ (two k a b) r w.1 (two_ok [] (uncounted l) (Two k) _ _ _ k refl p.1 q.1)
-
 -- an expression of any size is read back
 read_back : (e : Expr) (l : ℕ) (r : List ℕ) → nesting e ≤ l → NumbersFit e → Back l (spell e r) e r
-read_back empty zero r d m = absurd (omega arith)
-read_back any zero r d m = absurd (omega arith)
-read_back (term v) zero r d m = absurd (omega arith)
-read_back (call v) zero r d m = absurd (omega arith)
-read_back (seq a b) zero r d m = absurd (omega arith)
-read_back (alt a b) zero r d m = absurd (omega arith)
-read_back (star a) zero r d m = absurd (omega arith)
-read_back (not a) zero r d m = absurd (omega arith)
-read_back empty (suc l) r d m = by_leaf Empty l r
-read_back any (suc l) r d m = by_leaf Any l r
-read_back (term v) (suc l) r d m = by_number Term v l r m
-read_back (call v) (suc l) r d m = by_number Call v l r m
-read_back (seq a b) (suc l) r d m = by_two Seq a b l r (read_back a l _ (omega arith) m.0) (read_back b l _ (omega arith) m.1)
-read_back (alt a b) (suc l) r d m = by_two Alt a b l r (read_back a l _ (omega arith) m.0) (read_back b l _ (omega arith) m.1)
-read_back (star a) (suc l) r d m = by_one Star a l r (read_back a l _ (omega arith) m)
-read_back (not a) (suc l) r d m = by_one Not a l r (read_back a l _ (omega arith) m)
+unfolding uncounted
+read_back e zero r d m n at = absurd (omega (arith, some_nesting e))
+read_back empty (suc l) r d m n at = by_leaf [] (uncounted l) (λ k. k) Empty 0 at r (omega arith)
+read_back any (suc l) r d m n at = by_leaf [] (uncounted l) (λ k. k) Any 0 at r (omega arith)
+read_back (term v) (suc l) r d m n at = by_number [] (uncounted l) (λ k. k) Term v 0 at r (omega arith) m
+read_back (call v) (suc l) r d m n at = by_number [] (uncounted l) (λ k. k) Call v 0 at r (omega arith) m
+read_back (seq a b) (suc l) r d m n at = by_two [] (uncounted l) (λ k. k) Seq a b 0 at r (omega arith) (read_back a l _ (omega arith) m.0 _) (read_back b l _ (omega arith) m.1 _)
+read_back (alt a b) (suc l) r d m n at = by_two [] (uncounted l) (λ k. k) Alt a b 0 at r (omega arith) (read_back a l _ (omega arith) m.0 _) (read_back b l _ (omega arith) m.1 _)
+read_back (star a) (suc l) r d m n at = by_one [] (uncounted l) (λ k. k) Star a 0 at r (omega arith) (read_back a l _ (omega arith) m _)
+read_back (not a) (suc l) r d m n at = by_one [] (uncounted l) (λ k. k) Not a 0 at r (omega arith) (read_back a l _ (omega arith) m _)
 
 expr_once : (e f : Expr) (r s : List ℕ) → NumbersFit e → NumbersFit f → spell e r ≡ spell f s → (e ≡ f) × (r ≡ s)
 expr_once e f r s m n q =

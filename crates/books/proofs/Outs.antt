@@ -1,14 +1,13 @@
 -- The readers' definitions, read one step at a time.
-use Rattle.std.proofs.Common.{◌≡◌, ℕ, zero, suc, ◌+◌, ◌-◌, ◌<◌, ◌≤◌, List, ap, ◌∙◌, arith}
-use Rattle.std.proofs.lemmas.Bool.{le-leb, lt-leb}
+use Rattle.std.proofs.Common.{◌≡◌, ℕ, zero, suc, ◌+◌, ◌-◌, ◌<◌, List, ap, ◌∙◌, arith}
+use Rattle.std.proofs.lemmas.Bool.{lt-leb}
 use Rattle.tokens.specs.Out.{Out, ok, no, after, inside}
 use Rattle.tokens.specs.Spots.{spot}
 use Rattle.tokens.specs.declared.token.Token.{Token}
+use Rattle.tokens.specs.declared.token.Token.TheVariants.{Open, Close, Space}
 use Rattle.grammar.specs.Expr.{Expr, size}
-use Rattle.books.specs.declared.fault.ExprFault.{ExprFault}
 use Rattle.books.specs.declared.fault.ExprFault.TheVariants.{TooDeep}
-use Rattle.books.specs.declared.fault.BookFault.{BookFault}
-use Rattle.books.specs.declared.fault.BookFault.TheVariants.{InExpr, TooMany}
+use Rattle.books.specs.declared.fault.BookFault.TheVariants.{InExpr}
 use Rattle.books.specs.declared.head.Leaf.{Leaf as LeafOf}
 use Rattle.books.specs.declared.head.Numbered.{Numbered as NumberedOf}
 use Rattle.books.specs.declared.head.One.{One as OneOf}
@@ -16,8 +15,7 @@ use Rattle.books.specs.declared.head.Two.{Two as TwoOf}
 use Rattle.books.specs.declared.head.Head.{Head}
 use Rattle.books.specs.declared.head.Head.TheVariants.{Leaf, Numbered, One, Two}
 use Rattle.books.specs.Heads.{leaf, numbered, one, two}
-use Rattle.books.specs.Tests.{is_open, is_close, is_space}
-use Rattle.books.specs.Reading.{expecting, numbering, heading, operand, operands, bracketed, expression, Reader}
+use Rattle.books.specs.Reading.{expecting, numbering, heading, operand, operands, bracketed, expression, ExprReader}
 
 -- one reader after another
 module _ {E A B : Type 0} (f : A → ℕ → List ℕ → Out E B) where
@@ -34,51 +32,18 @@ module _ {E F A B : Type 0} (g : E → F) (f : A → ℕ → List ℕ → Out F 
   pub inside_no : {o : Out E A} {e : E} → o ≡ no e → after (inside g o) f ≡ no (g e)
   inside_no e = ap (λ o. after (inside g o) f) e
 
-module _ (bs : List ℕ) (rd : Reader) (n at : ℕ) (xs : List ℕ) where
-  pub operand_ok : {m : Token} {at₁ : ℕ} {ys : List ℕ} → expecting bs is_space at xs ≡ ok m at₁ ys → operand bs rd n at xs ≡ rd n at₁ ys
-  unfolding operand
-  operand_ok e = inside_ok InExpr _ e
+pub operand_ok : (bs : List ℕ) (rd : ExprReader) (n at : ℕ) (xs : List ℕ) {m : Token} {at₁ : ℕ} {ys : List ℕ} → expecting bs Space at xs ≡ ok m at₁ ys → operand bs rd n at xs ≡ rd n at₁ ys
+unfolding operand
+operand_ok bs rd n at xs e = inside_ok InExpr _ e
 
-  pub operand_no : {e : ExprFault} → expecting bs is_space at xs ≡ no e → operand bs rd n at xs ≡ no (InExpr e)
-  unfolding operand
-  operand_no e = inside_no InExpr _ e
+pub close_ok : (bs : List ℕ) (rd : Head → ExprReader) (n at : ℕ) (xs : List ℕ) {m m' : Token} {h : Head} {f : Expr} {at₁ at₂ at₃ at₄ : ℕ} {ys zs ws vs : List ℕ} → n < 512 → expecting bs Open at xs ≡ ok m at₁ ys → heading bs at₁ ys ≡ ok h at₂ zs → rd h n at₂ zs ≡ ok f at₃ ws → expecting bs Close at₃ ws ≡ ok m' at₄ vs → bracketed bs rd n at xs ≡ ok f at₄ vs
+unfolding bracketed
+close_ok bs rd n at xs few o w p e = inside_ok InExpr _ o ∙ inside_ok InExpr _ w ∙ rw (lt-leb 512 n few) (after_ok _ p ∙ inside_ok InExpr _ e)
 
-abbrev closing : List ℕ → Expr → ℕ → List ℕ → Out BookFault Expr
-closing bs f at ws = after (inside InExpr (expecting bs is_close at ws)) (λ m at₄ vs. ok f at₄ vs)
-
-module _ (bs : List ℕ) (rd : Head → Reader) (n at : ℕ) (xs : List ℕ) where
-  pub open_no : {e : ExprFault} → expecting bs is_open at xs ≡ no e → bracketed bs rd n at xs ≡ no (InExpr e)
-  unfolding bracketed
-  open_no e = inside_no InExpr _ e
-
-  module _ {m : Token} {at₁ : ℕ} {ys : List ℕ} (o : expecting bs is_open at xs ≡ ok m at₁ ys) where
-    pub head_no : {e : ExprFault} → heading bs at₁ ys ≡ no e → bracketed bs rd n at xs ≡ no (InExpr e)
-    unfolding bracketed
-    head_no e = inside_ok InExpr _ o ∙ inside_no InExpr _ e
-
-    module _ {h : Head} {at₂ : ℕ} {zs : List ℕ} (w : heading bs at₁ ys ≡ ok h at₂ zs) where
-      pub many : 512 ≤ n → bracketed bs rd n at xs ≡ no (TooMany (spot bs at))
-      unfolding bracketed
-      many l = inside_ok InExpr _ o ∙ inside_ok InExpr _ w ∙ rw (le-leb 512 n l)
-
-      few : n < 512 → bracketed bs rd n at xs ≡ after (rd h n at₂ zs) (closing bs)
-      unfolding bracketed
-      few l = inside_ok InExpr _ o ∙ inside_ok InExpr _ w ∙ rw (lt-leb 512 n l)
-
-      pub operands_no : n < 512 → {e : BookFault} → rd h n at₂ zs ≡ no e → bracketed bs rd n at xs ≡ no e
-      operands_no l e = few l ∙ after_no (closing bs) e
-
-      module _ (l : n < 512) {f : Expr} {at₃ : ℕ} {ws : List ℕ} (p : rd h n at₂ zs ≡ ok f at₃ ws) where
-        pub close_no : {e : ExprFault} → expecting bs is_close at₃ ws ≡ no e → bracketed bs rd n at xs ≡ no (InExpr e)
-        close_no e = few l ∙ after_ok (closing bs) p ∙ inside_no InExpr _ e
-
-        pub close_ok : {m : Token} {at₄ : ℕ} {vs : List ℕ} → expecting bs is_close at₃ ws ≡ ok m at₄ vs → bracketed bs rd n at xs ≡ ok f at₄ vs
-        close_ok e = few l ∙ after_ok (closing bs) p ∙ inside_ok InExpr _ e
-
-abbrev pub deep : List ℕ → ℕ → Head → Reader
+abbrev pub deep : List ℕ → ℕ → Head → ExprReader
 deep bs at h m at₂ zs = no (InExpr (TooDeep (spot bs at)))
 
-abbrev pub inner : List ℕ → ℕ → Head → Reader
+abbrev pub inner : List ℕ → ℕ → Head → ExprReader
 inner bs l h m at₂ zs = operands bs (expression bs l) h (m + 1) at₂ zs
 
 pub expression_none : (bs : List ℕ) (l n at : ℕ) (xs : List ℕ) → l ≡ 0 → expression bs l n at xs ≡ bracketed bs (deep bs at) n at xs
@@ -90,50 +55,20 @@ unfolding expression
 expression_some bs zero n at xs h = absurd (omega arith)
 expression_some bs (suc l) n at xs h = let e : suc l - 1 ≡ l = omega arith in rw e
 
--- a reading that holds for both is the reading
-pub expression_both : (bs : List ℕ) (l n at : ℕ) (xs : List ℕ) (o : Out BookFault Expr) → ((rd : Head → Reader) → bracketed bs rd n at xs ≡ o) → expression bs l n at xs ≡ o
-unfolding expression
-expression_both bs zero n at xs o h = h _
-expression_both bs (suc l) n at xs o h = h _
-
 -- what comes after the word
-module _ (bs : List ℕ) (rd : Reader) (h : Head) (n at : ℕ) (xs : List ℕ) where
+module _ (bs : List ℕ) (rd : ExprReader) (h : Head) (n at : ℕ) (xs : List ℕ) where
   pub leaf_ok : (k : LeafOf) → h ≡ Leaf k → operands bs rd h n at xs ≡ ok (leaf k) at xs
   unfolding operands
-  leaf_ok k e = rw e
+  leaf_ok k i = rw i
 
-  module _ (k : NumberedOf) (i : h ≡ Numbered k) where
-    pub space_no : {e : ExprFault} → expecting bs is_space at xs ≡ no e → operands bs rd h n at xs ≡ no (InExpr e)
-    unfolding operands
-    space_no e = rw i (inside_no InExpr _ e)
+  pub number_ok : (k : NumberedOf) → h ≡ Numbered k → {m : Token} {at₁ v at₂ : ℕ} {ys zs : List ℕ} → expecting bs Space at xs ≡ ok m at₁ ys → numbering bs at₁ ys ≡ ok v at₂ zs → operands bs rd h n at xs ≡ ok (numbered k v) at₂ zs
+  unfolding operands
+  number_ok k i s e = rw i (inside_ok InExpr _ s ∙ inside_ok InExpr _ e)
 
-    pub number_no : {m : Token} {at₁ : ℕ} {ys : List ℕ} {e : ExprFault} → expecting bs is_space at xs ≡ ok m at₁ ys → numbering bs at₁ ys ≡ no e → operands bs rd h n at xs ≡ no (InExpr e)
-    unfolding operands
-    number_no s e = rw i (inside_ok InExpr _ s ∙ inside_no InExpr _ e)
+  pub one_ok : (k : OneOf) → h ≡ One k → {f : Expr} {at₁ : ℕ} {ys : List ℕ} → operand bs rd n at xs ≡ ok f at₁ ys → operands bs rd h n at xs ≡ ok (one k f) at₁ ys
+  unfolding operands
+  one_ok k i e = rw i (after_ok _ e)
 
-    pub number_ok : {m : Token} {at₁ v at₂ : ℕ} {ys zs : List ℕ} → expecting bs is_space at xs ≡ ok m at₁ ys → numbering bs at₁ ys ≡ ok v at₂ zs → operands bs rd h n at xs ≡ ok (numbered k v) at₂ zs
-    unfolding operands
-    number_ok s e = rw i (inside_ok InExpr _ s ∙ inside_ok InExpr _ e)
-
-  module _ (k : OneOf) (i : h ≡ One k) where
-    pub one_no : {e : BookFault} → operand bs rd n at xs ≡ no e → operands bs rd h n at xs ≡ no e
-    unfolding operands
-    one_no e = rw i (after_no _ e)
-
-    pub one_ok : {f : Expr} {at₁ : ℕ} {ys : List ℕ} → operand bs rd n at xs ≡ ok f at₁ ys → operands bs rd h n at xs ≡ ok (one k f) at₁ ys
-    unfolding operands
-    one_ok e = rw i (after_ok _ e)
-
-  module _ (k : TwoOf) (i : h ≡ Two k) where
-    pub first_no : {e : BookFault} → operand bs rd n at xs ≡ no e → operands bs rd h n at xs ≡ no e
-    unfolding operands
-    first_no e = rw i (after_no _ e)
-
-    module _ {f : Expr} {at₁ : ℕ} {ys : List ℕ} (o : operand bs rd n at xs ≡ ok f at₁ ys) where
-      pub second_no : {e : BookFault} → operand bs rd (n + size f) at₁ ys ≡ no e → operands bs rd h n at xs ≡ no e
-      unfolding operands
-      second_no e = rw i (after_ok _ o ∙ after_no _ e)
-
-      pub two_ok : {g : Expr} {at₂ : ℕ} {zs : List ℕ} → operand bs rd (n + size f) at₁ ys ≡ ok g at₂ zs → operands bs rd h n at xs ≡ ok (two k f g) at₂ zs
-      unfolding operands
-      two_ok e = rw i (after_ok _ o ∙ after_ok _ e)
+  pub two_ok : (k : TwoOf) → h ≡ Two k → {f g : Expr} {at₁ at₂ : ℕ} {ys zs : List ℕ} → operand bs rd n at xs ≡ ok f at₁ ys → operand bs rd (n + size f) at₁ ys ≡ ok g at₂ zs → operands bs rd h n at xs ≡ ok (two k f g) at₂ zs
+  unfolding operands
+  two_ok k i o e = rw i (after_ok _ o ∙ after_ok _ e)

@@ -3,8 +3,9 @@ use Rattle.std.proofs.Common.{◌≡◌, ℕ, zero, suc, ◌+◌, ◌<◌, ◌�
 use Rattle.std.proofs.lemmas.Bool.{cond_both, eqb-false}
 use Rattle.std.proofs.lemmas.List.{append-nil}
 use Rattle.kinds.specs.declared.class.Class.{Class}
-use Rattle.tokens.specs.Out.{Out, ok, no, after, inside}
+use Rattle.tokens.specs.Out.{Out, ok, no, after}
 use Rattle.tokens.specs.Spots.{spot}
+use Rattle.tokens.specs.declared.token.Token.TheVariants.{Open, Close, Space, Feed}
 use Rattle.grammar.specs.Expr.{Expr, Grammar, size, nesting}
 use Rattle.grammar.specs.Spelling.{spell, spell_class, spell_rule, spell_classes, spell_rules, spelling}
 use Rattle.grammar.specs.Allowed.{NumbersFit, ClassFits, Each, sizes, Within}
@@ -14,14 +15,10 @@ use Rattle.books.specs.declared.head.LineWord.{LineWord}
 use Rattle.books.specs.declared.head.LineWord.TheVariants.{Class as ClassLine, Rule as RuleLine}
 use Rattle.books.specs.Reading.{expression, line_start_lem, class_numbers_lem, class_line, by_word, class_lines, rule_line, onward, rule_lines, reading}
 use Rattle.books.proofs.Lexed.{Gives, given, none, after_gives, inside_gives, gives_weaker}
-use Rattle.books.proofs.Sound.{open_gives, close_gives, space_gives, number_gives, feed_gives, rule_gives, line_word, line_word_gives, operand_sound, expression_sound}
+use Rattle.books.proofs.Sound.{expecting_gives, number_gives, rule_gives, line_word, line_word_gives, operand_sound, expression_sound}
 use Rattle.books.proofs.Complete.{Reads, open_there, close_there, space_there, feed_there, rule_there, class_line_there, rule_line_there, number_there, operand_there, expression_complete}
 use Rattle.books.proofs.Outs.{after_ok}
 use Rattle.books.proofs.Rows.{start_on, numbers_ok, class_ok, classes_end, classes_on, line_ok, rules_on}
-
-outside : {E F A : Type 0} (g : E → F) {P : A → ℕ → List ℕ → Type 0} (o : Out E A) → Gives P (inside g o) → Gives P o
-outside g (ok a at xs) (given h) = given h
-outside g (no e) none = none
 
 -- the numbers of a class line, its bracket, and then ys
 abbrev class_tail : Class → List ℕ → List ℕ
@@ -32,17 +29,17 @@ module _ (bs : List ℕ) (lawful : Class → Bool) where
   unfolding class_numbers_lem
   numbers_sound at xs =
       let P : Class → ℕ → List ℕ → Type 0 = λ c a ys. (xs ≡ class_tail c ys) × ClassFits c in
-      after_gives P _ (outside InExpr _ (space_gives bs at xs)) (λ t a ys o.
-      after_gives P _ (outside InExpr _ (number_gives bs a ys)) (λ v b zs p.
-      after_gives P _ (outside InExpr _ (space_gives bs b zs)) (λ t c ws q.
-      after_gives P _ (outside InExpr _ (number_gives bs c ws)) (λ u d vs r.
-      after_gives P _ (outside InExpr _ (close_gives bs d vs)) (λ t f us s.
+      after_gives P _ (expecting_gives bs Space at xs) (λ t a ys o.
+      after_gives P _ (number_gives bs a ys) (λ v b zs p.
+      after_gives P _ (expecting_gives bs Space b zs) (λ t c ws q.
+      after_gives P _ (number_gives bs c ws) (λ u d vs r.
+      after_gives P _ (expecting_gives bs Close d vs) (λ t f us s.
       given (o ∙ ap (λ k. 32 ∷ k) (p.0 ∙ ap (λ k. decimal v ++ k) (q ∙ ap (λ k. 32 ∷ k) (r.0 ∙ ap (λ k. decimal u ++ k) s))), (p.1, r.1)))))))
 
   start_sound : (at : ℕ) (xs : List ℕ) → Gives (λ w a ys. xs ≡ 40 ∷ (line_word w ++ ys)) (line_start_lem bs at xs)
   unfolding line_start_lem
   start_sound at xs =
-      after_gives (λ w a ys. xs ≡ 40 ∷ (line_word w ++ ys)) _ (outside InExpr _ (open_gives bs at xs)) (λ t a ys o.
+      after_gives (λ w a ys. xs ≡ 40 ∷ (line_word w ++ ys)) _ (expecting_gives bs Open at xs) (λ t a ys o.
       gives_weaker (λ w b zs. xs ≡ 40 ∷ (line_word w ++ zs)) (line_word_gives bs a ys) (λ w b zs e. o ∙ ap (λ k. 40 ∷ k) e))
 
   class_sound : (at next : ℕ) (xs : List ℕ) → Gives (λ c a ys. (xs ≡ class_tail c (10 ∷ ys)) × (ClassFits c × (lawful c ≡ true))) (class_line bs lawful at next xs)
@@ -51,7 +48,7 @@ module _ (bs : List ℕ) (lawful : Class → Bool) where
       let P : Class → ℕ → List ℕ → Type 0 = λ c a ys. (xs ≡ class_tail c (10 ∷ ys)) × (ClassFits c × (lawful c ≡ true)) in
       after_gives P _ (inside_gives InExpr (numbers_sound next xs)) (λ c a ys p.
       cond_both (lawful c) _ (no (Unlawful (spot bs at))) (Gives P)
-      (λ l. after_gives P _ (feed_gives bs a ys) (λ t b zs q. given (p.0 ∙ ap (λ k. class_tail c k) q, (p.1, l))))
+      (λ l. after_gives P _ (inside_gives InExpr (expecting_gives bs Feed a ys)) (λ t b zs q. given (p.0 ∙ ap (λ k. class_tail c k) q, (p.1, l))))
       (λ _. none))
 
   -- the class lines that were read after cs
@@ -94,24 +91,24 @@ module _ (bs : List ℕ) (lawful : Class → Bool) where
       by_line RuleLine a ys e o h rec = given (no_more (suc left) cs xs)
 
 -- a rule line's bytes
-record SpelledLine (left n : ℕ) (xs : List ℕ) (e : Expr) (ys : List ℕ) : Type 0 where
-  bytes : xs ≡ spell_rule e ys
-  positive : 0 < left
-  deep : nesting e ≤ 64
-  few : n + size e ≤ 512
-  fit : NumbersFit e
+pub record SpelledLine (left n : ℕ) (xs : List ℕ) (e : Expr) (ys : List ℕ) : Type 0 where
+  pub bytes : xs ≡ spell_rule e ys
+  pub positive : 0 < left
+  pub deep : nesting e ≤ 64
+  pub few : n + size e ≤ 512
+  pub fit : NumbersFit e
 
 module _ (bs : List ℕ) where
-  line_sound : (left n at : ℕ) (xs : List ℕ) → Gives (λ e a ys. SpelledLine left n xs e ys) (rule_line bs left n at xs)
+  pub line_sound : (left n at : ℕ) (xs : List ℕ) → Gives (λ e a ys. SpelledLine left n xs e ys) (rule_line bs left n at xs)
   unfolding rule_line
   line_sound left n at xs =
       let P : Expr → ℕ → List ℕ → Type 0 = λ e a ys. SpelledLine left n xs e ys in
-      after_gives P _ (open_gives bs at xs) (λ t a ys o.
-      after_gives P _ (rule_gives bs a ys) (λ t b zs w.
+      after_gives P _ (inside_gives InExpr (expecting_gives bs Open at xs)) (λ t a ys o.
+      after_gives P _ (inside_gives InExpr (rule_gives bs a ys)) (λ t b zs w.
       cond_both (eqb left 0) (no (TooMany (spot bs at))) _ (Gives P) (λ _. none) (λ c.
       after_gives P _ (operand_sound bs 64 (expression bs 64) (expression_sound bs 64) n b zs) (λ e d ws p.
-      after_gives P _ (close_gives bs d ws) (λ t i vs q.
-      after_gives P _ (feed_gives bs i vs) (λ t j us r.
+      after_gives P _ (inside_gives InExpr (expecting_gives bs Close d ws)) (λ t i vs q.
+      after_gives P _ (inside_gives InExpr (expecting_gives bs Feed i vs)) (λ t j us r.
       let z = eqb-false left 0 c in
       given (record { bytes = o ∙ ap (λ k. 40 ∷ k) (w ∙ ap (λ k. codes "rule" ++ k) (p.bytes ∙ ap (λ k. 32 ∷ spell e k) (q ∙ ap (λ k. 41 ∷ k) r))); positive = omega arith; deep = p.deep; few = p.few; fit = p.fit })))))))
 
@@ -171,7 +168,7 @@ module _ (bs : List ℕ) where
   class_complete lawful c at next r fits h =
       let p = number_there bs (next + 1) c.first 32 (decimal c.second ++ (41 ∷ (10 ∷ r))) refl fits.0 in
       let q = number_there bs (p.0 + 1) c.second 41 (10 ∷ r) refl fits.1 in
-      (_, class_ok bs lawful at next _ (numbers_ok bs next _ (space_there bs next _) p.1 (space_there bs p.0 _) q.1 (close_there bs q.0 _)) h (feed_there bs _ r))
+      (_, class_ok bs next _ lawful at (numbers_ok bs next _ (space_there bs next _) p.1 (space_there bs p.0 _) q.1 (close_there bs q.0 _)) h (feed_there bs _ r))
 
   class_start : (at : ℕ) (r : List ℕ) → Reads (line_start_lem bs at (40 ∷ (codes "class" ++ (32 ∷ r)))) ClassLine (32 ∷ r)
   class_start at r = let w = class_line_there bs (at + 1) r in (w.0, start_on bs at _ (open_there bs at _) ∙ w.1)
@@ -194,8 +191,8 @@ module _ (bs : List ℕ) where
   line_complete : (left n at : ℕ) (e : Expr) (r : List ℕ) → nesting e ≤ 64 → n + size e ≤ 512 → NumbersFit e → Reads (rule_line bs (suc left) n at (spell_rule e r)) e r
   line_complete left n at e r d s m =
       let w = rule_there bs (at + 1) (spell e (41 ∷ (10 ∷ r))) in
-      let p = operand_there bs 64 n w.0 (spell e (41 ∷ (10 ∷ r))) e (41 ∷ (10 ∷ r)) (λ b. expression_complete bs e 64 n b (41 ∷ (10 ∷ r)) d s m) in
-      (_, line_ok bs (suc left) n at _ (open_there bs at _) w.1 (omega arith) p.1 (close_there bs p.0 (10 ∷ r)) (feed_there bs _ r))
+      let p = operand_there bs (expression bs 64) n w.0 (spell e (41 ∷ (10 ∷ r))) e (41 ∷ (10 ∷ r)) (λ b. expression_complete bs e 64 n b (41 ∷ (10 ∷ r)) d s m) in
+      (_, line_ok bs at _ (suc left) n (omega arith) (open_there bs at _) w.1 p.1 (close_there bs p.0 (10 ∷ r)) (feed_there bs _ r))
 
   rules_complete : (new : List Expr) (left : ℕ) (es : List Expr) (n at : ℕ) → 0 < length new → length new ≤ left → n + sizes new ≤ 512 → Each (λ e. (nesting e ≤ 64) × NumbersFit e) new → Reads (rule_lines bs left es n at (spell_rules new)) (es ++ new) []
   rules_complete [] left es n at some most few each = absurd (omega arith)

@@ -3,43 +3,17 @@ use Rattle.std.proofs.Common.{◌≡◌, ℕ, ◌<◌, ◌≤◌, Bool, ◌⊎�
 use Rattle.std.proofs.lemmas.Bool.{cases_lt}
 use Rattle.kinds.specs.declared.class.Class.{Class}
 use Rattle.tokens.specs.Out.{Out, ok, no}
-use Rattle.tokens.specs.Spots.{spot}
 use Rattle.grammar.specs.Expr.{Grammar}
 use Rattle.grammar.specs.Spelling.{spelling}
 use Rattle.grammar.specs.Allowed.{Missing, Loop, None, Earliest, Found, expressions, Within}
 use Rattle.analyses.proofs.Decided.{missing_found, loop_found, missing_once, loop_once}
 use Rattle.books.specs.declared.fault.BookFault.{BookFault}
-use Rattle.books.specs.declared.fault.BookFault.TheVariants.{Missing as MissingFault, Loop as LoopFault}
 use Rattle.books.specs.Reading.{reading}
 use Rattle.books.specs.Verdict.{Accepts, Refuses, too_long, unread, missing, loops, AcceptedAsSpelled, SpelledOnce, OneVerdict}
 use Rattle.books.proofs.Lexed.{Gives, given}
 use Rattle.books.proofs.Grows.{given_at}
 use Rattle.books.proofs.Spelled.{reading_sound, reading_complete}
 use Rattle.books.proofs.Once.{grammar_once}
-
-ok_once : {E A : Type 0} {o : Out E A} {a b : A} {i j : ℕ} {xs ys : List ℕ} → o ≡ ok a i xs → o ≡ ok b j ys → a ≡ b
-ok_once {E = E} {A = A} p q = inj (sym p ∙ q)
-  where
-    inj : {a b : A} {i j : ℕ} {xs ys : List ℕ} → ◌≡◌ {A = Out E A} (ok a i xs) (ok b j ys) → a ≡ b
-    inj e = cc
-
-no_once : {E A : Type 0} {o : Out E A} {a b : E} → o ≡ no a → o ≡ no b → a ≡ b
-no_once {E = E} {A = A} p q = inj (sym p ∙ q)
-  where
-    inj : {a b : E} → ◌≡◌ {A = Out E A} (no a) (no b) → a ≡ b
-    inj e = cc
-
-ok_no : {E A : Type 0} {o : Out E A} {a : A} {i : ℕ} {xs : List ℕ} {e : E} → o ≡ ok a i xs → o ≡ no e → ⊥
-ok_no {E = E} {A = A} p q = clash (sym p ∙ q)
-  where
-    clash : {a : A} {i : ℕ} {xs : List ℕ} {e : E} → ◌≡◌ {A = Out E A} (ok a i xs) (no e) → ⊥
-    clash h = let z : ◌≡◌ {A = ℕ} 0 1 = cc in omega arith
-
-some_once : {a b : ℕ} → ◌≡◌ {A = Option ℕ} (Some a) (Some b) → a ≡ b
-some_once e = cc
-
-some_none : {a : ℕ} → ◌≡◌ {A = Option ℕ} (Some a) None' → ⊥
-some_none e = let z : ◌≡◌ {A = ℕ} 0 1 = cc in omega arith
 
 pub accepted_as_spelled : AcceptedAsSpelled
 accepted_as_spelled lawful bs g = (
@@ -74,13 +48,15 @@ module _ (lawful : Class → Bool) (bs : List ℕ) where
 
   not_both : (g : Grammar) (e : BookFault) → Accepts lawful bs g → Refuses lawful bs e → ⊥
   not_both g e a (too_long l) = let s = a.short in omega arith
-  not_both g e a (unread s q) = ok_no a.reads q
+  not_both g e a (unread s q) = cc
   not_both g e a (missing {g = h} s q m) =
-      let same : g ≡ h = ok_once a.reads q in
-      some_none (missing_once h (Some _) None' m (subst (λ k. None (Missing k) (expressions k)) same a.all_there))
+      let same : g ≡ h = cc in
+      let once = missing_once h (Some _) None' m (subst (λ k. None (Missing k) (expressions k)) same a.all_there) in
+      cc
   not_both g e a (loops {g = h} s q m l) =
-      let same : g ≡ h = ok_once a.reads q in
-      some_none (loop_once h (Some _) None' l (subst (λ k. None (Loop k) (expressions k)) same a.no_loop))
+      let same : g ≡ h = cc in
+      let once = loop_once h (Some _) None' l (subst (λ k. None (Loop k) (expressions k)) same a.no_loop) in
+      cc
 
   one_fault : (e d : BookFault) → Refuses lawful bs e → Refuses lawful bs d → e ≡ d
   one_fault e d (too_long l) (too_long k) = refl
@@ -88,25 +64,29 @@ module _ (lawful : Class → Bool) (bs : List ℕ) where
   one_fault e d (too_long l) (missing s q m) = absurd (omega arith)
   one_fault e d (too_long l) (loops s q m k) = absurd (omega arith)
   one_fault e d (unread s q) (too_long l) = absurd (omega arith)
-  one_fault e d (unread s q) (unread t r) = no_once q r
-  one_fault e d (unread s q) (missing t r m) = absurd (ok_no r q)
-  one_fault e d (unread s q) (loops t r m k) = absurd (ok_no r q)
+  one_fault e d (unread s q) (unread t r) = cc
+  one_fault e d (unread s q) (missing t r m) = cc
+  one_fault e d (unread s q) (loops t r m k) = cc
   one_fault e d (missing s q m) (too_long l) = absurd (omega arith)
-  one_fault e d (missing s q m) (unread t r) = absurd (ok_no q r)
+  one_fault e d (missing s q m) (unread t r) = cc
   one_fault e d (missing {g = g} {place = a} s q m) (missing {g = h} {place = b} t r n) =
-      let same : h ≡ g = ok_once r q in
-      ap (λ p. MissingFault (spot bs p)) (some_once (missing_once g (Some a) (Some b) m (subst (λ k. Earliest (Missing k) (expressions k) b) same n)))
+      let same : h ≡ g = cc in
+      let once = missing_once g (Some a) (Some b) m (subst (λ k. Earliest (Missing k) (expressions k) b) same n) in
+      cc
   one_fault e d (missing {g = g} {place = a} s q m) (loops {g = h} t r n k) =
-      let same : h ≡ g = ok_once r q in
-      absurd (some_none (missing_once g (Some a) None' m (subst (λ k. None (Missing k) (expressions k)) same n)))
+      let same : h ≡ g = cc in
+      let once = missing_once g (Some a) None' m (subst (λ k. None (Missing k) (expressions k)) same n) in
+      cc
   one_fault e d (loops s q m k) (too_long l) = absurd (omega arith)
-  one_fault e d (loops s q m k) (unread t r) = absurd (ok_no q r)
+  one_fault e d (loops s q m k) (unread t r) = cc
   one_fault e d (loops {g = g} {place = a} s q m k) (missing {g = h} {place = b} t r n) =
-      let same : g ≡ h = ok_once q r in
-      absurd (some_none (missing_once h (Some b) None' n (subst (λ k. None (Missing k) (expressions k)) same m)))
+      let same : g ≡ h = cc in
+      let once = missing_once h (Some b) None' n (subst (λ k. None (Missing k) (expressions k)) same m) in
+      cc
   one_fault e d (loops {g = g} {place = a} s q m k) (loops {g = h} {place = b} t r n j) =
-      let same : h ≡ g = ok_once r q in
-      ap (λ p. LoopFault (spot bs p)) (some_once (loop_once g (Some a) (Some b) k (subst (λ k. Earliest (Loop k) (expressions k) b) same j)))
+      let same : h ≡ g = cc in
+      let once = loop_once g (Some a) (Some b) k (subst (λ k. Earliest (Loop k) (expressions k) b) same j) in
+      cc
 
   pub one_verdict : OneVerdict lawful bs
-  one_verdict = record { some = some_verdict; not_both = not_both; one_fault = one_fault; one_grammar = λ g h a b. ok_once a.reads b.reads }
+  one_verdict = record { some = some_verdict; not_both = not_both; one_fault = one_fault; one_grammar = λ g h a b. cc }

@@ -5,10 +5,11 @@ use Rattle.tokens.specs.Out.{Out, ok, no, after, inside}
 use Rattle.tokens.specs.Spots.{spot}
 use Rattle.tokens.specs.Lexing.{lexing}
 use Rattle.tokens.specs.declared.token.Word.{Word}
-use Rattle.tokens.specs.declared.token.Word.TheVariants.{Class, Rule, Empty, Any, Term, Call, Seq, Alt, Star, Not, Other}
+use Rattle.tokens.specs.declared.token.Word.TheVariants.{Class, Rule, Empty, Any, Term, Call, Seq, Alt, Star, Not}
 use Rattle.tokens.specs.declared.token.Token.{Token}
-use Rattle.tokens.specs.declared.token.Token.TheVariants.{Open, Close, Space, Feed, Letters, Number, End}
+use Rattle.tokens.specs.declared.token.Token.TheVariants.{Open, Close, Space, Feed, Letters, Number}
 use Rattle.tokens.specs.declared.token.TokenFault.{TokenFault}
+use Rattle.tokens.specs.contracts.token.TokenPartialEq.TheImpl as token_eq
 use Rattle.grammar.specs.Expr.{Expr, Grammar, size}
 use Rattle.books.specs.declared.fault.ExprFault.{ExprFault}
 use Rattle.books.specs.declared.fault.ExprFault.TheVariants.{InToken, Unwanted, TooDeep}
@@ -23,31 +24,29 @@ use Rattle.books.specs.declared.head.Head.TheVariants.{Leaf, Numbered, One, Two}
 use Rattle.books.specs.declared.head.LineWord.{LineWord}
 use Rattle.books.specs.declared.head.LineWord.TheVariants.{Class as ClassLine, Rule as RuleLine}
 use Rattle.books.specs.Heads.{leaf, numbered, one, two}
-use Rattle.books.specs.Tests.{is_open, is_close, is_space, is_feed, is_rule}
 
 -- A reader of expressions: how many expressions stand before it, the place, and the bytes from there on.
-abbrev pub Reader : Type 0
-Reader = ℕ → ℕ → List ℕ → Out BookFault Expr
+abbrev pub ExprReader : Type 0
+ExprReader = ℕ → ℕ → List ℕ → Out BookFault Expr
 
 -- In all that follows bs is the whole book, from which a fault has its line.
 
--- The token that the layout wants.
-abbrev pub wanting : List ℕ → (Token → Bool) → ℕ → Out TokenFault Token → Out ExprFault Token
-wanting bs p at (ok t next ys) = cond (p t) (ok t next ys) (no (Unwanted (spot bs at)))
-wanting bs p at (no e) = no (InToken e)
+-- Whether two tokens are the same, as `==` tells.
+abbrev pub same_token : Token → Token → Bool
+same_token = (token_eq.ghosts).eq
 
-unfoldable pub expecting : List ℕ → (Token → Bool) → ℕ → List ℕ → Out ExprFault Token
-expecting bs p at xs = wanting bs p at (lexing bs at xs)
+-- The token w that the layout wants.
+abbrev pub wanting : List ℕ → Token → ℕ → Out TokenFault Token → Out ExprFault Token
+wanting bs w at (ok t next ys) = cond (same_token t w) (ok t next ys) (no (Unwanted (spot bs at)))
+wanting bs w at (no e) = no (InToken e)
+
+unfoldable pub expecting : List ℕ → Token → ℕ → List ℕ → Out ExprFault Token
+expecting bs w at xs = wanting bs w at (lexing bs at xs)
 
 -- A number.
 abbrev pub valued : List ℕ → ℕ → Out TokenFault Token → Out ExprFault ℕ
-valued bs at (ok Open next ys) = no (Unwanted (spot bs at))
-valued bs at (ok Close next ys) = no (Unwanted (spot bs at))
-valued bs at (ok Space next ys) = no (Unwanted (spot bs at))
-valued bs at (ok Feed next ys) = no (Unwanted (spot bs at))
-valued bs at (ok (Letters w) next ys) = no (Unwanted (spot bs at))
 valued bs at (ok (Number n) next ys) = ok n next ys
-valued bs at (ok End next ys) = no (Unwanted (spot bs at))
+valued bs at (ok _ next ys) = no (Unwanted (spot bs at))
 valued bs at (no e) = no (InToken e)
 
 unfoldable pub numbering : List ℕ → ℕ → List ℕ → Out ExprFault ℕ
@@ -55,8 +54,6 @@ numbering bs at xs = valued bs at (lexing bs at xs)
 
 -- The word of an expression.
 abbrev pub head_of : List ℕ → ℕ → Word → ℕ → List ℕ → Out ExprFault Head
-head_of bs at Class next ys = no (Unwanted (spot bs at))
-head_of bs at Rule next ys = no (Unwanted (spot bs at))
 head_of bs at Empty next ys = ok (Leaf EmptyLeaf) next ys
 head_of bs at Any next ys = ok (Leaf AnyLeaf) next ys
 head_of bs at Term next ys = ok (Numbered TermHead) next ys
@@ -65,30 +62,25 @@ head_of bs at Seq next ys = ok (Two SeqHead) next ys
 head_of bs at Alt next ys = ok (Two AltHead) next ys
 head_of bs at Star next ys = ok (One StarHead) next ys
 head_of bs at Not next ys = ok (One NotHead) next ys
-head_of bs at Other next ys = no (Unwanted (spot bs at))
+head_of bs at _ next ys = no (Unwanted (spot bs at))
 
 abbrev pub headed : List ℕ → ℕ → Out TokenFault Token → Out ExprFault Head
-headed bs at (ok Open next ys) = no (Unwanted (spot bs at))
-headed bs at (ok Close next ys) = no (Unwanted (spot bs at))
-headed bs at (ok Space next ys) = no (Unwanted (spot bs at))
-headed bs at (ok Feed next ys) = no (Unwanted (spot bs at))
 headed bs at (ok (Letters w) next ys) = head_of bs at w next ys
-headed bs at (ok (Number n) next ys) = no (Unwanted (spot bs at))
-headed bs at (ok End next ys) = no (Unwanted (spot bs at))
+headed bs at (ok _ next ys) = no (Unwanted (spot bs at))
 headed bs at (no e) = no (InToken e)
 
 unfoldable pub heading : List ℕ → ℕ → List ℕ → Out ExprFault Head
 heading bs at xs = headed bs at (lexing bs at xs)
 
 -- A space and an expression.
-unfoldable pub operand : List ℕ → Reader → Reader
-operand bs rd n at xs = after (inside InExpr (expecting bs is_space at xs)) (λ t a ys. rd n a ys)
+unfoldable pub operand : List ℕ → ExprReader → ExprReader
+operand bs rd n at xs = after (inside InExpr (expecting bs Space at xs)) (λ t a ys. rd n a ys)
 
 -- What a word asks for after it.
-unfoldable pub operands : List ℕ → Reader → Head → Reader
+unfoldable pub operands : List ℕ → ExprReader → Head → ExprReader
 operands bs rd (Leaf k) n at xs = ok (leaf k) at xs
 operands bs rd (Numbered k) n at xs =
-    after (inside InExpr (expecting bs is_space at xs)) (λ t a ys.
+    after (inside InExpr (expecting bs Space at xs)) (λ t a ys.
     after (inside InExpr (numbering bs a ys)) (λ v b zs. ok (numbered k v) b zs))
 operands bs rd (One k) n at xs = after (operand bs rd n at xs) (λ e a ys. ok (one k e) a ys)
 operands bs rd (Two k) n at xs =
@@ -96,16 +88,16 @@ operands bs rd (Two k) n at xs =
     after (operand bs rd (n + size e) a ys) (λ f b zs. ok (two k e f) b zs))
 
 -- An expression in its brackets, by a reader of what comes after its word. At the word it is one too many if 512 stand before it.
-unfoldable pub bracketed : List ℕ → (Head → Reader) → Reader
+unfoldable pub bracketed : List ℕ → (Head → ExprReader) → ExprReader
 bracketed bs rd n at xs =
-    after (inside InExpr (expecting bs is_open at xs)) (λ t a ys.
+    after (inside InExpr (expecting bs Open at xs)) (λ t a ys.
     after (inside InExpr (heading bs a ys)) (λ h b zs.
     cond (nat_le 512 n) (no (TooMany (spot bs at)))
     (after (rd h n b zs) (λ e c ws.
-    after (inside InExpr (expecting bs is_close c ws)) (λ t d vs. ok e d vs)))))
+    after (inside InExpr (expecting bs Close c ws)) (λ t d vs. ok e d vs)))))
 
 -- An expression nested at most `left` deep.
-unfoldable pub expression : List ℕ → ℕ → Reader
+unfoldable pub expression : List ℕ → ℕ → ExprReader
 expression bs zero n at xs = bracketed bs (λ h m b zs. no (InExpr (TooDeep (spot bs at)))) n at xs
 expression bs (suc left) n at xs = bracketed bs (λ h m b zs. operands bs (expression bs left) h (m + 1) b zs) n at xs
 
@@ -113,24 +105,11 @@ expression bs (suc left) n at xs = bracketed bs (λ h m b zs. operands bs (expre
 abbrev pub line_word_of : List ℕ → ℕ → Word → ℕ → List ℕ → Out ExprFault LineWord
 line_word_of bs at Class next ys = ok ClassLine next ys
 line_word_of bs at Rule next ys = ok RuleLine next ys
-line_word_of bs at Empty next ys = no (Unwanted (spot bs at))
-line_word_of bs at Any next ys = no (Unwanted (spot bs at))
-line_word_of bs at Term next ys = no (Unwanted (spot bs at))
-line_word_of bs at Call next ys = no (Unwanted (spot bs at))
-line_word_of bs at Seq next ys = no (Unwanted (spot bs at))
-line_word_of bs at Alt next ys = no (Unwanted (spot bs at))
-line_word_of bs at Star next ys = no (Unwanted (spot bs at))
-line_word_of bs at Not next ys = no (Unwanted (spot bs at))
-line_word_of bs at Other next ys = no (Unwanted (spot bs at))
+line_word_of bs at _ next ys = no (Unwanted (spot bs at))
 
 abbrev pub line_headed : List ℕ → ℕ → Out TokenFault Token → Out ExprFault LineWord
-line_headed bs at (ok Open next ys) = no (Unwanted (spot bs at))
-line_headed bs at (ok Close next ys) = no (Unwanted (spot bs at))
-line_headed bs at (ok Space next ys) = no (Unwanted (spot bs at))
-line_headed bs at (ok Feed next ys) = no (Unwanted (spot bs at))
 line_headed bs at (ok (Letters w) next ys) = line_word_of bs at w next ys
-line_headed bs at (ok (Number n) next ys) = no (Unwanted (spot bs at))
-line_headed bs at (ok End next ys) = no (Unwanted (spot bs at))
+line_headed bs at (ok _ next ys) = no (Unwanted (spot bs at))
 line_headed bs at (no e) = no (InToken e)
 
 unfoldable pub line_heading : List ℕ → ℕ → List ℕ → Out ExprFault LineWord
@@ -138,22 +117,22 @@ line_heading bs at xs = line_headed bs at (lexing bs at xs)
 
 -- The bracket and the word with which a line begins.
 unfoldable pub line_start_lem : List ℕ → ℕ → List ℕ → Out ExprFault LineWord
-line_start_lem bs at xs = after (expecting bs is_open at xs) (λ t a ys. line_heading bs a ys)
+line_start_lem bs at xs = after (expecting bs Open at xs) (λ t a ys. line_heading bs a ys)
 
 -- The numbers of a class line and its bracket, past its word.
 unfoldable pub class_numbers_lem : List ℕ → ℕ → List ℕ → Out ExprFault ClassOf
 class_numbers_lem bs at xs =
-    after (expecting bs is_space at xs) (λ t a ys.
+    after (expecting bs Space at xs) (λ t a ys.
     after (numbering bs a ys) (λ v b zs.
-    after (expecting bs is_space b zs) (λ t c ws.
+    after (expecting bs Space b zs) (λ t c ws.
     after (numbering bs c ws) (λ u d vs.
-    after (expecting bs is_close d vs) (λ t e us. ok (record { first = v; second = u }) e us)))))
+    after (expecting bs Close d vs) (λ t e us. ok (record { first = v; second = u }) e us)))))
 
 -- A class line that begins at `at`, past its word, which ends at `next`. At its bracket the class is found lawful, or not.
 unfoldable pub class_line : List ℕ → (ClassOf → Bool) → ℕ → ℕ → List ℕ → Out BookFault ClassOf
 class_line bs lawful at next xs =
     after (inside InExpr (class_numbers_lem bs next xs)) (λ c a ys.
-    cond (lawful c) (after (inside InExpr (expecting bs is_feed a ys)) (λ t b zs. ok c b zs)) (no (Unlawful (spot bs at))))
+    cond (lawful c) (after (inside InExpr (expecting bs Feed a ys)) (λ t b zs. ok c b zs)) (no (Unlawful (spot bs at))))
 
 abbrev pub by_word : {A : Type 0} → LineWord → A → A → A
 by_word ClassLine class rule = class
@@ -169,14 +148,14 @@ class_lines bs lawful (suc left) cs at xs =
     (ok cs at xs))
 
 -- A rule line, where there may be `left` more rules and n expressions stand before it. At its word it is found to be one too many.
-unfoldable pub rule_line : List ℕ → ℕ → Reader
+unfoldable pub rule_line : List ℕ → ℕ → ExprReader
 rule_line bs left n at xs =
-    after (inside InExpr (expecting bs is_open at xs)) (λ t a ys.
-    after (inside InExpr (expecting bs is_rule a ys)) (λ t b zs.
+    after (inside InExpr (expecting bs Open at xs)) (λ t a ys.
+    after (inside InExpr (expecting bs (Letters Rule) a ys)) (λ t b zs.
     cond (left == 0) (no (TooMany (spot bs at)))
     (after (operand bs (expression bs 64) n b zs) (λ e c ws.
-    after (inside InExpr (expecting bs is_close c ws)) (λ t d vs.
-    after (inside InExpr (expecting bs is_feed d vs)) (λ t f us. ok e f us))))))
+    after (inside InExpr (expecting bs Close c ws)) (λ t d vs.
+    after (inside InExpr (expecting bs Feed d vs)) (λ t f us. ok e f us))))))
 
 -- The end of the book, or more of it.
 abbrev pub onward : (ℕ → List ℕ → Out BookFault (List Expr)) → List Expr → ℕ → List ℕ → Out BookFault (List Expr)

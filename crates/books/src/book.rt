@@ -5,7 +5,7 @@ ghost use Rattle.books.specs.Verdict.{Accepts, Refuses, AcceptedAsSpelled, Spell
 ghost use Rattle.kinds.specs.declared.class.Class.{Class};
 
 use crate::fault::BookFault;
-use crate::lines::{read_classes, read_rules};
+use crate::reader::Reader;
 use analyses::{first_loop, first_missing};
 use grammar::Book;
 use kinds::Kind;
@@ -31,8 +31,9 @@ pub fn read_book<K: Kind>(kind: &K, bytes: &[u8]) -> Result<Book, BookFault>
     if bytes.len() > MOST_BYTES {
         return Err(BookFault::TooLong(spot_at(bytes, 0)));
     }
-    let (classes, start) = read_classes(kind, bytes)?;
-    let (table, roots) = read_rules(bytes, start)?;
+    let mut reader = Reader::new(bytes);
+    let classes = reader.classes(kind)?;
+    let (table, roots) = reader.rules()?;
     let book = Book {
         classes,
         table,

@@ -3,11 +3,9 @@
 #![tactic(auto)]
 
 mod book;
-mod exprs;
 mod fault;
 mod head;
-mod lines;
-mod steps;
+mod reader;
 mod telling;
 #[cfg(test)]
 mod tests;

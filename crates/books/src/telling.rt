@@ -28,13 +28,12 @@ impl BookFault {
     {
         match *self {
             BookFault::InExpr(ExprFault::InToken(_)) => Layer::Tokens,
-            BookFault::InExpr(ExprFault::Unwanted(_)) => Layer::Expressions,
-            BookFault::InExpr(ExprFault::TooDeep(_)) => Layer::Expressions,
-            BookFault::TooLong(_) => Layer::Book,
-            BookFault::TooMany(_) => Layer::Book,
-            BookFault::Unlawful(_) => Layer::Book,
-            BookFault::Missing(_) => Layer::Book,
-            BookFault::Loop(_) => Layer::Book,
+            BookFault::InExpr(ExprFault::Unwanted(_) | ExprFault::TooDeep(_)) => Layer::Expressions,
+            BookFault::TooLong(_)
+            | BookFault::TooMany(_)
+            | BookFault::Unlawful(_)
+            | BookFault::Missing(_)
+            | BookFault::Loop(_) => Layer::Book,
         }
     }
 
@@ -43,15 +42,16 @@ impl BookFault {
         ensures { result ≡ (told self.now).spot }
     {
         match *self {
-            BookFault::InExpr(ExprFault::InToken(TokenFault::Stray(spot))) => spot,
-            BookFault::InExpr(ExprFault::InToken(TokenFault::BadNumber(spot))) => spot,
-            BookFault::InExpr(ExprFault::Unwanted(spot)) => spot,
-            BookFault::InExpr(ExprFault::TooDeep(spot)) => spot,
-            BookFault::TooLong(spot) => spot,
-            BookFault::TooMany(spot) => spot,
-            BookFault::Unlawful(spot) => spot,
-            BookFault::Missing(spot) => spot,
-            BookFault::Loop(spot) => spot,
+            BookFault::InExpr(
+                ExprFault::InToken(TokenFault::Stray(spot) | TokenFault::BadNumber(spot))
+                | ExprFault::Unwanted(spot)
+                | ExprFault::TooDeep(spot),
+            )
+            | BookFault::TooLong(spot)
+            | BookFault::TooMany(spot)
+            | BookFault::Unlawful(spot)
+            | BookFault::Missing(spot)
+            | BookFault::Loop(spot) => spot,
         }
     }
 }

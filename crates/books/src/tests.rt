@@ -1,3 +1,5 @@
+ghost use Rattle.std.specs.Prelude.{◌≡◌, ◌≤◌, length};
+
 use crate::book::{MOST_BYTES, read_book};
 use crate::fault::{BookFault, ExprFault, Layer};
 use kinds::{ByteKind, CommandKind, Kind};
@@ -47,11 +49,12 @@ fn in_book(rt: &impl Abort, bytes: &[u8], number: u8, place: usize, line: usize)
     );
 }
 
-// A book while it is written, with room for one byte more than it may have.
+// A book while it is written, in fixed memory, with room for one byte more than it may have.
 #[derive(Drop)]
 struct Draft {
     bytes: [u8; 32_769],
     count: usize,
+    ghost within: { (length bytes ≡ 32769) × (count ≤ 32769) },
 }
 
 impl Draft {
@@ -65,12 +68,10 @@ impl Draft {
     // Writes the same bytes so many times, as far as there is room.
     fn write(&mut self, times: usize, bytes: &[u8]) {
         for _ in 0..times {
-            for byte in bytes {
-                if self.count < 32_769 {
-                    self.bytes[self.count] = *byte;
-                    self.count += 1;
-                }
-            }
+            let fits = bytes.len().min(self.bytes.len() - self.count);
+            let end = self.count + fits;
+            self.bytes[self.count..end].copy_from_slice(&bytes[..fits]);
+            self.count = end;
         }
     }
 
@@ -86,7 +87,7 @@ impl Draft {
     }
 
     fn text(&self) -> &[u8] {
-        &self.bytes[0..self.count.min(32_769)]
+        &self.bytes[..self.count]
     }
 }
 
