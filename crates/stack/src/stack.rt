@@ -4,8 +4,8 @@ ghost use Rattle.stack.specs.Held.{held, last, front, Taken, SameLoan};
 /// A stack of records in a slice that its owner lends.
 ///
 /// It holds the first `depth` records of the slice, the top last: all of them if `depth` is greater
-/// than the slice is long. An empty one is `Stack { records, depth: 0 }`.
-// The depth stands beside the slice, for the memory is the lender's: the project's crates have no heap.
+/// than the slice is long.
+// The depth stands beside the slice, for the memory is lent: the libraries of this project use no heap.
 #[derive(Drop)]
 pub struct Stack<'a, R> {
     pub records: &'a mut [R],

@@ -3,10 +3,7 @@ use crate::stack::Stack;
 #[test]
 fn push_until_full(rt: HostRuntime) {
     let mut records = [0u8; 3];
-    let mut stack = Stack {
-        records: &mut records,
-        depth: 0,
-    };
+    let mut stack = Stack::new(&mut records);
     assert!(rt; stack.is_empty());
     assert_eq!(rt; stack.push(5), Ok(()));
     assert!(rt; !stack.is_empty());
@@ -23,10 +20,7 @@ fn push_until_full(rt: HostRuntime) {
 #[test]
 fn pop_in_reverse_until_empty(rt: HostRuntime) {
     let mut records = [0u8; 4];
-    let mut stack = Stack {
-        records: &mut records,
-        depth: 0,
-    };
+    let mut stack = Stack::new(&mut records);
     assert_eq!(rt; stack.push(5), Ok(()));
     assert_eq!(rt; stack.push(6), Ok(()));
     assert_eq!(rt; stack.push(7), Ok(()));
@@ -43,10 +37,7 @@ fn pop_in_reverse_until_empty(rt: HostRuntime) {
 #[test]
 fn the_slice_after_use(rt: HostRuntime) {
     let mut records = [9u8; 5];
-    let mut stack = Stack {
-        records: &mut records[1..4],
-        depth: 0,
-    };
+    let mut stack = Stack::new(&mut records[1..4]);
     assert_eq!(rt; stack.push(1), Ok(()));
     assert_eq!(rt; stack.push(2), Ok(()));
     assert_eq!(rt; stack.pop(), Some(2));
@@ -56,10 +47,7 @@ fn the_slice_after_use(rt: HostRuntime) {
 #[test]
 fn a_push_after_a_pop_takes_its_place(rt: HostRuntime) {
     let mut records = [9u8; 2];
-    let mut stack = Stack {
-        records: &mut records,
-        depth: 0,
-    };
+    let mut stack = Stack::new(&mut records);
     assert_eq!(rt; stack.push(1), Ok(()));
     assert_eq!(rt; stack.pop(), Some(1));
     assert_eq!(rt; stack.push(2), Ok(()));
@@ -70,10 +58,7 @@ fn a_push_after_a_pop_takes_its_place(rt: HostRuntime) {
 #[test]
 fn an_empty_slice_has_no_room(rt: HostRuntime) {
     let mut records = [0u8; 0];
-    let mut stack = Stack {
-        records: &mut records,
-        depth: 0,
-    };
+    let mut stack = Stack::new(&mut records);
     assert_eq!(rt; stack.push(1), Err(1));
     assert_eq!(rt; stack.top(), None);
     assert_eq!(rt; stack.pop(), None);
