@@ -1,6 +1,6 @@
--- A list that counts only in its first n elements.
+-- Lists that count only in their first n items.
 use Rattle.std.proofs.Math.Seq.{take-set-lt}
-use Rattle.std.proofs.lemmas.List.{length-take-le}
+use Rattle.std.proofs.lemmas.Option.{unwrap_or-slice_get}
 
--- An element that counts is set among those that count, and these are n.
-pub ruleset counted = (take-set-lt, length-take-le)
+-- A write among the items that count, and a read of one, or of another item in its place.
+pub ruleset counted = (take-set-lt, unwrap_or-slice_get)

@@ -1,15 +1,15 @@
 -- How the tables of a loaded book hold its grammar.
 use Rattle.std.specs.Prelude.{◌≡◌, ℕ, ◌+◌, ◌≤◌, List, [], ◌∷◌, ◌++◌, length, codes}
+use Rattle.kinds.specs.declared.class.Class.{Class}
 use Rattle.grammar.specs.declared.node.Operator.{Operator}
 use Rattle.grammar.specs.declared.node.Operator.TheVariants.{Empty, Any, Term, Call, Seq, Alt, Star, Not}
 use Rattle.grammar.specs.declared.node.Node.{Node}
 use Rattle.grammar.specs.declared.table.Table.{Table}
-use Rattle.grammar.specs.declared.classes.Classes.{Classes}
-use Rattle.grammar.specs.declared.roots.Roots.{Roots}
+use Rattle.grammar.specs.declared.limited.Limited.{Limited}
 use Rattle.grammar.specs.Expr.{Expr, empty, any, term, call, seq, alt, star, not, Grammar, size, nesting}
 use Rattle.grammar.specs.Spelling.{spelling, width}
 use Rattle.grammar.specs.Allowed.{past, line_width, rules_at, Each}
-use Rattle.grammar.specs.Tables.{laid, listed, rooted}
+use Rattle.grammar.specs.Tables.{laid, listed}
 
 -- An expression's own operator.
 abbrev pub operator_of : Expr → Operator
@@ -56,13 +56,13 @@ starts i [] = []
 starts i (e ∷ es) = i ∷ starts (i + size e) es
 
 -- The tables hold the grammar, and `len` is how many bytes it is written in.
-pub record Lays (classes : Classes) (table : Table) (roots : Roots) (len : ℕ) (g : Grammar) : Type 0 where
+pub record Lays (classes : Limited Class 64) (table : Table) (roots : Limited ℕ 32) (len : ℕ) (g : Grammar) : Type 0 where
   pub classes_are : listed classes ≡ g.classes
   pub nodes_are : laid table ≡ flats 0 (rules_at g) g.rules
-  pub roots_are : rooted roots ≡ starts 0 g.rules
+  pub roots_are : listed roots ≡ starts 0 g.rules
   pub length_is : len ≡ length (spelling g)
   pub shallow : Each (λ e. nesting e ≤ 64) g.rules
 
 -- They hold some grammar.
-abbrev pub Known : Classes → Table → Roots → ℕ → Type 0
+abbrev pub Known : Limited Class 64 → Table → Limited ℕ 32 → ℕ → Type 0
 Known classes table roots len = ∥ ((g : Grammar) × Lays classes table roots len g) ∥₁

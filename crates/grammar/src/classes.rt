@@ -1,16 +1,8 @@
-ghost use Rattle.std.specs.Prelude.{◌≡◌, ◌≤◌, length};
-
+use crate::limited::Limited;
 use kinds::Class;
 
-mod listing;
-
 /// How many classes a book may have.
-pub const MOST_CLASSES: u8 = 64;
+pub const MOST_CLASSES: usize = 64;
 
 /// The classes of a book.
-#[derive(Clone, Copy, Drop)]
-pub struct Classes {
-    list: [Class; 64],
-    count: u8,
-    ghost within: { (length list ≡ 64) × (count ≤ 64) },
-}
+pub type Classes = Limited<Class, MOST_CLASSES>;

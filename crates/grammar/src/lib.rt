@@ -4,6 +4,7 @@
 
 mod book;
 mod classes;
+mod limited;
 mod node;
 mod roots;
 mod table;
@@ -12,6 +13,7 @@ mod tests;
 
 pub use book::Book;
 pub use classes::{Classes, MOST_CLASSES};
+pub use limited::Limited;
 pub use node::{Node, Operator};
 pub use roots::{MOST_RULES, Roots};
 pub use table::{MOST_EXPRESSIONS, Table};

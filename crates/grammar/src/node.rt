@@ -1,6 +1,7 @@
 /// The operator of a parsing expression, with the number that a `term` or a `call` names.
-#[derive(Clone, Copy, PartialEq, Eq, Debug)]
+#[derive(Clone, Copy, PartialEq, Eq, Default, Debug)]
 pub enum Operator {
+    #[default]
     Empty,
     Any,
     Term(u32),
@@ -14,7 +15,7 @@ pub enum Operator {
 /// An expression in the table: its operator, the index just past its last part, and the byte place
 /// of its opening bracket. Its first part is the next node; its second part begins where the first
 /// ends.
-#[derive(Clone, Copy, PartialEq, Eq, Debug)]
+#[derive(Clone, Copy, PartialEq, Eq, Default, Debug)]
 pub struct Node {
     pub operator: Operator,
     pub end: u16,
