@@ -1,6 +1,3 @@
 pub mod Puts
-pub mod Digits
-pub mod Spelled
 pub mod Ends
 pub mod Turns
-pub mod Held

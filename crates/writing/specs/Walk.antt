@@ -1,5 +1,6 @@
 -- What a walk over the nodes of a table writes, with a stack of the ends of the expressions that are still open, the innermost first.
-use Rattle.std.specs.Prelude.{ℕ, ◌+◌, Bool, false, cond, List, [], ◌∷◌, ◌++◌, length, drop, codes, decimal, ◌==◌, nat_lt}
+use Rattle.std.specs.Prelude.{ℕ, ◌+◌, Bool, false, cond, List, [], ◌∷◌, ◌++◌, length, drop, map, reverse, codes, decimal, ◌==◌, nat_lt}
+use Rattle.std.specs.List.{flat_map}
 use Rattle.kinds.specs.declared.class.Class.{Class}
 use Rattle.grammar.specs.Spelling.{spell_classes}
 use Rattle.grammar.specs.declared.node.Operator.{Operator}
@@ -24,8 +25,7 @@ opening Not = codes " (not"
 
 -- The ends of what a stack holds: there the innermost stands last.
 abbrev pub ends : List OpenExpr → List ℕ
-ends [] = []
-ends (x ∷ xs) = ends xs ++ (x.end ∷ [])
+ends xs = reverse (map (λ x. x.end) xs)
 
 -- One more expression is open, if 64 are not already.
 abbrev pub opened : ℕ → List ℕ → List ℕ
@@ -63,9 +63,8 @@ abbrev pub rule_line : List Node → ℕ → List ℕ
 rule_line nodes start = codes "(rule" ++ (walked start [] (drop start nodes) ++ codes ")\n")
 
 -- The lines of the rules whose expressions begin at these nodes.
-unfoldable pub rule_lines : List Node → List ℕ → List ℕ
-rule_lines nodes [] = []
-rule_lines nodes (start ∷ starts) = rule_line nodes start ++ rule_lines nodes starts
+abbrev pub rule_lines : List Node → List ℕ → List ℕ
+rule_lines nodes starts = flat_map (rule_line nodes) starts
 
 -- The lines of a book with these classes, nodes and roots.
 abbrev pub book_lines : List Class → List Node → List ℕ → List ℕ

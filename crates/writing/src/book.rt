@@ -4,7 +4,7 @@ ghost use Rattle.grammar.specs.Spelling.{spelling};
 ghost use Rattle.grammar.specs.Held.{Holds};
 ghost use Rattle.writing.specs.Wrote.{Wrote};
 
-use crate::lines::{put_classes, put_rules};
+use crate::writer::Writer;
 use grammar::Book;
 
 /// Writes the book into `out` and answers how many bytes that took; bytes past them stay. Answers
@@ -17,6 +17,8 @@ pub fn write_book(book: &Book, out: &mut [u8]) -> Option<usize>
     if out.len() < book.length {
         return None;
     }
-    let count = put_classes(&book.classes, out);
-    Some(count + put_rules(&book.table, &book.roots, &mut out[count..]))
+    let mut writer = Writer { out, count: 0 };
+    writer.put_classes(&book.classes);
+    writer.put_rules(&book.table, &book.roots);
+    Some(writer.count)
 }

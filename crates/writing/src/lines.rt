@@ -1,60 +1,55 @@
-ghost use Rattle.std.specs.Prelude.{◌+◌, ◌≤◌, [], length, drop};
+ghost use Rattle.std.specs.Prelude.{[], drop};
 ghost use Rattle.grammar.specs.Spelling.{spell_class, spell_classes};
-ghost use Rattle.grammar.specs.Tables.{listed, laid, rooted};
-ghost use Rattle.writing.specs.Wrote.{Put};
-ghost use Rattle.writing.specs.Walk.{number_bytes, walked, rule_line, rule_lines};
+ghost use Rattle.grammar.specs.Tables.{listed, laid};
+ghost use Rattle.writing.specs.Wrote.{Put, Room};
+ghost use Rattle.writing.specs.Walk.{rule_line, rule_lines};
 
-use crate::bytes::{put, put_number};
-use crate::walk::put_expr;
+use crate::writer::Writer;
 use grammar::{Classes, Roots, Table};
 use kinds::Class;
 
 // The closing bracket of a line, and the line feed.
 const LINE_END: &[u8] = b")\n";
 
-// Writes the line of a class: 8 bytes, besides the numbers.
-fn put_class(class: Class, out: &mut [u8]) -> usize
-    requires { length (number_bytes class.first) + length (number_bytes class.second) + 8 ≤ length out.old }
-    ensures { Put (spell_class class []) out.old result out.new }
-{
-    let mut count = put(b"(class", out);
-    count += put_number(class.first, &mut out[count..]);
-    count += put_number(class.second, &mut out[count..]);
-    count += put(LINE_END, &mut out[count..]);
-    count
-}
-
-/// Writes the lines of the classes.
-pub(crate) fn put_classes(classes: &Classes, out: &mut [u8]) -> usize
-    requires { length (spell_classes (listed classes.now) []) ≤ length out.old }
-    ensures { Put (spell_classes (listed classes.now) []) out.old result out.new }
-{
-    let mut count = 0;
-    for i in 0..classes.count() {
-        count += put_class(classes.class(i), &mut out[count..]);
+impl Writer<'_> {
+    // Writes the line of a class.
+    fn put_class(&mut self, class: Class)
+        requires { Room (spell_class class []) self.old }
+        ensures { Put (spell_class class []) self.old self.new }
+    {
+        self.put(b"(class");
+        self.put_number(class.first);
+        self.put_number(class.second);
+        self.put(LINE_END);
     }
-    count
-}
 
-// Writes the line of the rule whose expression's node is `start`: 7 bytes, besides the expression.
-fn put_rule(table: &Table, start: u16, out: &mut [u8]) -> usize
-    requires { length (walked start [] (drop start (laid table.now))) + 7 ≤ length out.old }
-    ensures { Put (rule_line (laid table.now) start) out.old result out.new }
-{
-    let mut count = put(b"(rule", out);
-    count += put_expr(table, start, &mut out[count..]);
-    count += put(LINE_END, &mut out[count..]);
-    count
-}
-
-/// Writes the lines of the rules.
-pub(crate) fn put_rules(table: &Table, roots: &Roots, out: &mut [u8]) -> usize
-    requires { length (rule_lines (laid table.now) (rooted roots.now)) ≤ length out.old }
-    ensures { Put (rule_lines (laid table.now) (rooted roots.now)) out.old result out.new }
-{
-    let mut count = 0;
-    for i in 0..roots.count() {
-        count += put_rule(table, roots.root(i), &mut out[count..]);
+    /// Writes the lines of the classes.
+    pub fn put_classes(&mut self, classes: &Classes)
+        requires { Room (spell_classes (listed classes.now) []) self.old }
+        ensures { Put (spell_classes (listed classes.now) []) self.old self.new }
+    {
+        for class in classes.as_slice() {
+            self.put_class(*class);
+        }
     }
-    count
+
+    // Writes the line of the rule whose expression's node is `start`.
+    fn put_rule(&mut self, table: &Table, start: u16)
+        requires { Room (rule_line (laid table.now) start) self.old }
+        ensures { Put (rule_line (laid table.now) start) self.old self.new }
+    {
+        self.put(b"(rule");
+        self.put_expr(table, start);
+        self.put(LINE_END);
+    }
+
+    /// Writes the lines of the rules.
+    pub fn put_rules(&mut self, table: &Table, roots: &Roots)
+        requires { Room (rule_lines (laid table.now) (listed roots.now)) self.old }
+        ensures { Put (rule_lines (laid table.now) (listed roots.now)) self.old self.new }
+    {
+        for start in roots.as_slice() {
+            self.put_rule(table, *start);
+        }
+    }
 }

@@ -1,5 +1,5 @@
 use crate::book::write_book;
-use crate::bytes::put_digits;
+use crate::writer::Writer;
 use grammar::{Book, Classes, Operator, Roots, Table};
 use kinds::Class;
 

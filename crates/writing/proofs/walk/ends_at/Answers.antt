@@ -1,11 +1,7 @@
-use Rattle.std.proofs.Common.{sym, ap, ◌∙◌}
+use Rattle.std.proofs.Common.{rules}
 use Rattle.stack.specs.Held.{held}
-use Rattle.writing.specs.Walk.{ends_at}
-use Rattle.writing.proofs.Ends.{top_end, no_end}
+use Rattle.writing.proofs.Ends.{top_ends}
 use Rattle.writing.proofs.walk.ends_at.Goals as goal
 
-pub returns-in-Some : goal.returns-in-Some
-returns-in-Some c = sym (ap (ends_at c.args.next) (top_end (held c.args.stack.now) c.in-Some.open (sym c.top.ensures ∙ c.in-Some.is)))
-
-pub returns-in-None : goal.returns-in-None
-returns-in-None c = sym (ap (ends_at c.args.next) (no_end (held c.args.stack.now) (sym c.top.ensures ∙ c.in-None.is)))
+pub returns : goal.returns
+returns c = top_ends c.args.next (held c.args.stack.now) _ _ c.top.ensures (λ e. search rules) (λ x e. search rules)
