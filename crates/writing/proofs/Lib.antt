@@ -1,3 +1,5 @@
 pub mod Puts
+pub mod Spelled
 pub mod Ends
 pub mod Turns
+pub mod Held

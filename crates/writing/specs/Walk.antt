@@ -2,10 +2,12 @@
 use Rattle.std.specs.Prelude.{ℕ, ◌+◌, Bool, false, cond, List, [], ◌∷◌, ◌++◌, length, drop, map, reverse, codes, decimal, ◌==◌, nat_lt}
 use Rattle.std.specs.List.{flat_map}
 use Rattle.kinds.specs.declared.class.Class.{Class}
-use Rattle.grammar.specs.Spelling.{spell_classes}
+use Rattle.grammar.specs.Spelling.{spell_class}
 use Rattle.grammar.specs.declared.node.Operator.{Operator}
 use Rattle.grammar.specs.declared.node.Operator.TheVariants.{Empty, Any, Term, Call, Seq, Alt, Star, Not}
 use Rattle.grammar.specs.declared.node.Node.{Node}
+use Rattle.grammar.specs.declared.book.Book.{Book}
+use Rattle.grammar.specs.Tables.{laid, listed}
 use Rattle.writing.specs.declared.walk.OpenExpr.{OpenExpr}
 
 -- A space and a number.
@@ -58,6 +60,10 @@ walked i st (node ∷ nodes) =
     let inside = opened node.end st in let open_still = still_open (i + 1) inside in
     opening node.operator ++ (closings (i + 1) inside ++ while_open open_still (walked (i + 1) open_still nodes))
 
+-- The lines of the classes.
+abbrev pub class_lines : List Class → List ℕ
+class_lines classes = flat_map (λ class. spell_class class []) classes
+
 -- The line of the rule whose expression begins at the node `start`.
 abbrev pub rule_line : List Node → ℕ → List ℕ
 rule_line nodes start = codes "(rule" ++ (walked start [] (drop start nodes) ++ codes ")\n")
@@ -66,6 +72,6 @@ rule_line nodes start = codes "(rule" ++ (walked start [] (drop start nodes) ++ 
 abbrev pub rule_lines : List Node → List ℕ → List ℕ
 rule_lines nodes starts = flat_map (rule_line nodes) starts
 
--- The lines of a book with these classes, nodes and roots.
-abbrev pub book_lines : List Class → List Node → List ℕ → List ℕ
-book_lines classes nodes roots = spell_classes classes [] ++ rule_lines nodes roots
+-- The lines of a book, as its tables have them.
+abbrev pub book_lines : Book → List ℕ
+book_lines book = class_lines (listed book.classes) ++ rule_lines (laid book.table) (listed book.roots)

@@ -18,7 +18,6 @@ pub fn write_book(book: &Book, out: &mut [u8]) -> Option<usize>
         return None;
     }
     let mut writer = Writer { out, count: 0 };
-    writer.put_classes(&book.classes);
-    writer.put_rules(&book.table, &book.roots);
+    writer.put_book(book);
     Some(writer.count)
 }

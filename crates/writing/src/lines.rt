@@ -1,11 +1,11 @@
-ghost use Rattle.std.specs.Prelude.{[], drop};
-ghost use Rattle.grammar.specs.Spelling.{spell_class, spell_classes};
-ghost use Rattle.grammar.specs.Tables.{listed, laid};
+ghost use Rattle.std.specs.Prelude.{[]};
+ghost use Rattle.grammar.specs.Spelling.{spell_class};
+ghost use Rattle.grammar.specs.Tables.{laid};
 ghost use Rattle.writing.specs.Wrote.{Put, Room};
-ghost use Rattle.writing.specs.Walk.{rule_line, rule_lines};
+ghost use Rattle.writing.specs.Walk.{rule_line, book_lines};
 
 use crate::writer::Writer;
-use grammar::{Classes, Roots, Table};
+use grammar::{Book, Table};
 use kinds::Class;
 
 // The closing bracket of a line, and the line feed.
@@ -23,16 +23,6 @@ impl Writer<'_> {
         self.put(LINE_END);
     }
 
-    /// Writes the lines of the classes.
-    pub fn put_classes(&mut self, classes: &Classes)
-        requires { Room (spell_classes (listed classes.now) []) self.old }
-        ensures { Put (spell_classes (listed classes.now) []) self.old self.new }
-    {
-        for class in classes.as_slice() {
-            self.put_class(*class);
-        }
-    }
-
     // Writes the line of the rule whose expression's node is `start`.
     fn put_rule(&mut self, table: &Table, start: u16)
         requires { Room (rule_line (laid table.now) start) self.old }
@@ -43,13 +33,16 @@ impl Writer<'_> {
         self.put(LINE_END);
     }
 
-    /// Writes the lines of the rules.
-    pub fn put_rules(&mut self, table: &Table, roots: &Roots)
-        requires { Room (rule_lines (laid table.now) (listed roots.now)) self.old }
-        ensures { Put (rule_lines (laid table.now) (listed roots.now)) self.old self.new }
+    /// Writes the lines of the classes, and then those of the rules.
+    pub fn put_book(&mut self, book: &Book)
+        requires { Room (book_lines book.now) self.old }
+        ensures { Put (book_lines book.now) self.old self.new }
     {
-        for start in roots.as_slice() {
-            self.put_rule(table, *start);
+        for class in book.classes.as_slice() {
+            self.put_class(*class);
+        }
+        for start in book.roots.as_slice() {
+            self.put_rule(&book.table, *start);
         }
     }
 }
