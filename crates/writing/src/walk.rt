@@ -18,7 +18,9 @@ pub(crate) struct OpenExpr {
 fn ends_at(next: usize, stack: &Stack<'_, OpenExpr>) -> bool
     ensures { result ≡ ends_at next (ends (held stack.now)) }
 {
-    stack.top().is_some_and(|open| usize::from(open.end) == next)
+    stack
+        .top()
+        .is_some_and(|open| usize::from(open.end) == next)
 }
 
 // The nodes from `first` on.
