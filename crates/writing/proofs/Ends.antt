@@ -16,9 +16,11 @@ pub length_ends : (xs : List OpenExpr) → length (ends xs) ≡ length xs
 length_ends xs = simp (length-map, length-reverse)
 
 -- The end of the top is the innermost.
-pub top_ends : (i : ℕ) (xs : List OpenExpr) (top : Option OpenExpr) (answer : Bool) → top ≡ last xs → (top ≡ None → answer ≡ false) → ((x : OpenExpr) → top ≡ Some x → answer ≡ eqb x.end i) → answer ≡ ends_at i (ends xs)
-top_ends i xs None answer is_top none some = none refl ∙ sym (ap (λ l. ends_at i (ends l)) (ends_in xs None is_top).0)
-top_ends i xs (Some x) answer is_top none some = some x refl ∙ sym (ap (λ l. ends_at i (ends l)) (ends_in xs (Some x) is_top) ∙ ap (ends_at i) (ends_pushed (front xs) x))
+pub top_none : (i : ℕ) (xs : List OpenExpr) → None ≡ last xs → ends_at i (ends xs) ≡ false
+top_none i xs is_top = ap (λ l. ends_at i (ends l)) (ends_in xs None is_top).0
+
+pub top_some : (i : ℕ) (xs : List OpenExpr) (x : OpenExpr) → Some x ≡ last xs → ends_at i (ends xs) ≡ eqb x.end i
+top_some i xs x is_top = ap (λ l. ends_at i (ends l)) (ends_in xs (Some x) is_top) ∙ ap (ends_at i) (ends_pushed (front xs) x)
 
 -- Where the innermost does not end, none is closed.
 pub stopped : (i : ℕ) (st : List ℕ) → ends_at i st ≡ false → (closings i st ≡ []) × (still_open i st ≡ st)

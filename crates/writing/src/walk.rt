@@ -15,6 +15,7 @@ pub(crate) struct OpenExpr {
 }
 
 // Whether the innermost open expression ends before the node `next`.
+#[tactic(auto, using(crate::proofs::Ends::top_some, crate::proofs::Ends::top_none))]
 fn ends_at(next: usize, stack: &Stack<'_, OpenExpr>) -> bool
     ensures { result ≡ ends_at next (ends (held stack.now)) }
 {
