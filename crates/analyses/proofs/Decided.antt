@@ -117,8 +117,8 @@ module _ (P : Expr → Type 0) where
   none_of_none at f = go f.before f.split
     where
       go : (before : List Placed) → [] ≡ before ++ (placed at f.here ∷ f.after) → ⊥
-      go [] q = let z : ◌≡◌ {A = ℕ} 0 1 = cc in omega arith
-      go (x ∷ xs) q = let z : ◌≡◌ {A = ℕ} 0 1 = cc in omega arith
+      go [] q = cc
+      go (x ∷ xs) q = cc
 
   next : (p : Placed) (ps : List Placed) (at : ℕ) → Earliest P (p ∷ ps) at → Next p ps at
   next p ps at f = go f.before f.split f.not_before

@@ -9,7 +9,7 @@ use Rattle.analyses.specs.Rounds.{unmarked}
 
 pub unmarked_set : (marks : List Bool) (k : ℕ) → k < length marks → get_or marks k false ≡ false → unmarked (set marks k true) < unmarked marks
 unmarked_set [] k l h = absurd (omega arith)
-unmarked_set (true ∷ marks) zero l h = absurd (false≢true (sym h))
+unmarked_set (true ∷ marks) zero l h = cc
 unmarked_set (false ∷ marks) zero l h = omega arith
 unmarked_set (true ∷ marks) (suc k) l h = unmarked_set marks k (omega arith) h
 unmarked_set (false ∷ marks) (suc k) l h = omega (arith, unmarked_set marks k (omega arith) h)
@@ -21,8 +21,8 @@ outside rules marks n l e = false≢true (sym (ap (nulls marks) (get_or_past rul
 module _ (rules : List Expr) (marks : List Bool) where
   pub nulls_sound : Sound rules marks → (e : Expr) → nulls marks e ≡ true → Nullable rules e
   nulls_sound h empty q = of_empty
-  nulls_sound h any q = absurd (false≢true q)
-  nulls_sound h (term n) q = absurd (false≢true q)
+  nulls_sound h any q = cc
+  nulls_sound h (term n) q = cc
   nulls_sound h (call n) q = of_call (h n q)
   nulls_sound h (seq a b) q = let p = and_parts (nulls marks a) (nulls marks b) q in of_seq (nulls_sound h a p.0) (nulls_sound h b p.1)
   nulls_sound h (alt a b) q =

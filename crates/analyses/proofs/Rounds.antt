@@ -1,22 +1,21 @@
 -- A pass over the nodes flags the nullable ones, and rounds of passes mark the nullable rules.
-use Rattle.std.proofs.Common.{◌≡◌, ℕ, ◌+◌, ◌<◌, ◌≤◌, Bool, true, false, ◌&&◌, ◌||◌, ◌⊎◌, List, [], length, get_or, set, sym, refl, ap, ◌∙◌, subst, inl, inr, ⊎_elim, arith}
-use Rattle.std.proofs.lemmas.List.{get_or-set_same, get_or-set_other, length-set, length-take-le}
+use Rattle.std.proofs.Common.{◌≡◌, ℕ, ◌+◌, ◌<◌, Bool, true, false, ◌&&◌, ◌||◌, ◌⊎◌, List, [], length, get_or, set, sym, refl, ap, ◌∙◌, subst, inl, inr, ⊎_elim, arith}
+use Rattle.std.proofs.lemmas.List.{get_or-set_same, get_or-set_other, length-set}
 use Rattle.std.proofs.lemmas.Bool.{false≢true, cases_eq, cases_Bool}
 use Rattle.grammar.specs.declared.node.Node.{Node}
-use Rattle.grammar.specs.declared.table.Table.{Table}
-use Rattle.grammar.specs.declared.roots.Roots.{Roots}
 use Rattle.grammar.specs.declared.book.Book.{Book}
 use Rattle.grammar.specs.Expr.{Expr, empty, any, term, call, seq, alt, star, not, size, body, Grammar}
 use Rattle.grammar.specs.Nullable.{Nullable}
 use Rattle.grammar.specs.Allowed.{rules_at}
-use Rattle.grammar.specs.Tables.{blank, laid, rooted}
+use Rattle.grammar.specs.Tables.{blank, laid, listed}
 use Rattle.grammar.specs.Layout.{operator_of}
 use Rattle.grammar.specs.Held.{Holds}
+use Rattle.grammar.proofs.Widths.{starts_length}
 use Rattle.analyses.specs.Nulls.{nulls, Sound, MarksRight}
 use Rattle.analyses.specs.Stands.{Stands}
 use Rattle.analyses.specs.Rounds.{flag_of, Flagged, unmarked, Round}
 use Rattle.analyses.proofs.Nulls.{unmarked_set, nulls_sound, closed_below, marks_right}
-use Rattle.analyses.proofs.Stands.{stands_rules, starts_length}
+use Rattle.analyses.proofs.Stands.{stands_rules}
 
 module _ (ns : List Node) (marks flags : List Bool) (i : ℕ) (later : Flagged (i + 1) ns marks flags) where
   -- an operand's flag, and the flag of the operand after it
@@ -81,7 +80,7 @@ module _ (k : ℕ) (roots : List ℕ) (flags before after : List Bool) (changed 
         (cases_eq n k);
     fewer = λ _. let u = unmarked_set after k l h in
         ⊎_elim (λ (c : changed ≡ true). omega (arith, u, b.fewer c)) (λ (c : changed ≡ false). omega (arith, u, ap unmarked (b.still c).0)) (cases_Bool changed);
-    still = λ c. absurd (false≢true (sym c));
+    still = λ c. cc;
   }
 
   -- what is so marked, under other names
@@ -89,37 +88,28 @@ module _ (k : ℕ) (roots : List ℕ) (flags before after : List Bool) (changed 
   round_mark marks new m e l h f = rw (m, e) (marked l h f)
 
 -- The rules of a grammar that a book holds stand where its roots say.
-roots_stand : (book : Book) (g : Grammar) → Holds book g → (n : ℕ) → n < length g.rules → Stands (laid book.table) (get_or (rooted book.roots) n 0) (body g.rules n)
+roots_stand : (book : Book) (g : Grammar) → Holds book g → (n : ℕ) → n < length g.rules → Stands (laid book.table) (get_or (listed book.roots) n 0) (body g.rules n)
 roots_stand book g h n l =
-    subst (λ rs. Stands (laid book.table) (get_or rs n 0) (body g.rules n)) (sym h.roots_are) (stands_rules (laid book.table) [] 0 (rules_at g) g.rules refl h.nodes_are n l)
+    rw h.roots_are (stands_rules (laid book.table) [] 0 (rules_at g) g.rules refl h.nodes_are n l)
 
-pub roots_count : (book : Book) (g : Grammar) → Holds book g → length (rooted book.roots) ≡ length g.rules
+pub roots_count : (book : Book) (g : Grammar) → Holds book g → length (listed book.roots) ≡ length g.rules
 roots_count book g h = ap length h.roots_are ∙ starts_length 0 g.rules
 
 -- A whole round.
-module _ (book : Book) (flags before after : List Bool) (changed : Bool) (flagged : Flagged 0 (laid book.table) before flags) (b : Round (length (rooted book.roots)) (rooted book.roots) flags before after changed) (g : Grammar) (holds : Holds book g) where
+module _ (book : Book) (flags before after : List Bool) (changed : Bool) (flagged : Flagged 0 (laid book.table) before flags) (b : Round (length (listed book.roots)) (listed book.roots) flags before after changed) (g : Grammar) (holds : Holds book g) where
   pub round_sound : Sound g.rules before → Sound g.rules after
   round_sound sound n e = go (b.new n e)
     where
-      go : (get_or before n false ≡ true) ⊎ ((n < length (rooted book.roots)) × (get_or flags (get_or (rooted book.roots) n 0) false ≡ true)) → Nullable g.rules (body g.rules n)
+      go : (get_or before n false ≡ true) ⊎ ((n < length (listed book.roots)) × (get_or flags (get_or (listed book.roots) n 0) false ≡ true)) → Nullable g.rules (body g.rules n)
       go (inl old) = sound n old
       go (inr new) =
           let l = new.0 in
           let s = roots_stand book g holds n (omega (arith, roots_count book g holds)) in
-          nulls_sound g.rules before sound (body g.rules n) (sym (flagged (get_or (rooted book.roots) n 0) (body g.rules n) (omega arith) s) ∙ new.1)
+          nulls_sound g.rules before sound (body g.rules n) (sym (flagged (get_or (listed book.roots) n 0) (body g.rules n) (omega arith) s) ∙ new.1)
 
   pub round_right : changed ≡ false → Sound g.rules before → MarksRight g.rules after
   round_right c sound =
       let s = b.still c in
       let closed : (n : ℕ) → n < length g.rules → nulls before (body g.rules n) ≡ true → get_or before n false ≡ true =
-      λ n l q. s.1 n (omega (arith, roots_count book g holds)) (flagged (get_or (rooted book.roots) n 0) (body g.rules n) (omega arith) (roots_stand book g holds n l) ∙ q) in
-      subst (MarksRight g.rules) (sym s.0) (marks_right g.rules before sound (closed_below g.rules before closed))
-
--- The limits of the tables.
-pub laid_short : (t : Table) → length (laid t) ≤ 512
-unfolding laid
-laid_short t = let w = t.within in omega (arith, length-take-le t.count t.nodes (omega arith))
-
-pub rooted_short : (rs : Roots) → length (rooted rs) ≤ 32
-unfolding rooted
-rooted_short rs = let w = rs.within in omega (arith, length-take-le rs.count rs.list (omega arith))
+      λ n l q. s.1 n (omega (arith, roots_count book g holds)) (flagged (get_or (listed book.roots) n 0) (body g.rules n) (omega arith) (roots_stand book g holds n l) ∙ q) in
+      rw s.0 (marks_right g.rules before sound (closed_below g.rules before closed))

@@ -6,27 +6,9 @@ use Rattle.grammar.specs.Expr.{Expr, empty, any, term, call, seq, alt, star, not
 use Rattle.grammar.specs.Spelling.{width}
 use Rattle.grammar.specs.Allowed.{past, line_width}
 use Rattle.grammar.specs.Tables.{blank}
-use Rattle.grammar.specs.Layout.{root, below, flat, flats, starts}
+use Rattle.grammar.specs.Layout.{root, flat, flats, starts}
+use Rattle.grammar.proofs.Widths.{flat_length}
 use Rattle.analyses.specs.Stands.{Heads, Stands}
-
-below_length : (i at : ℕ) (e : Expr) → length (below i at e) + 1 ≡ size e
-below_length i at empty = refl
-below_length i at any = refl
-below_length i at (term n) = refl
-below_length i at (call n) = refl
-below_length i at (seq a b) =
-    let p = past at (codes "seq") in let q = p + width a + 1 in
-    let s = length-append (flat i p a) (flat (i + size a) q b) in
-    omega (arith, s, below_length (i + 1) p a, below_length (i + size a + 1) q b)
-below_length i at (alt a b) =
-    let p = past at (codes "alt") in let q = p + width a + 1 in
-    let s = length-append (flat i p a) (flat (i + size a) q b) in
-    omega (arith, s, below_length (i + 1) p a, below_length (i + size a + 1) q b)
-below_length i at (star a) = let p = past at (codes "star") in omega (arith, below_length (i + 1) p a)
-below_length i at (not a) = let p = past at (codes "not") in omega (arith, below_length (i + 1) p a)
-
-pub flat_length : (i at : ℕ) (e : Expr) → length (flat i at e) ≡ size e
-flat_length i at e = omega (arith, below_length (i + 1) at e)
 
 module _ (ns before after : List Node) (i at : ℕ) (e : Expr) (l : length before ≡ i) (h : ns ≡ before ++ (root i at e ∷ after)) where
   heads : Heads ns i e
@@ -104,7 +86,3 @@ stands_rules ns before i at (e ∷ es) l h zero k = stands_flat ns before (flats
 stands_rules ns before i at (e ∷ es) l h (suc n) k =
     let x = flat i (past at (codes "rule")) e in
     stands_rules ns (before ++ x) (i + size e) (at + line_width e) es (after_flat before i (past at (codes "rule")) e l) (h ∙ sym (append_assoc before x (flats (i + size e) (at + line_width e) es))) n (omega arith)
-
-pub starts_length : (i : ℕ) (rules : List Expr) → length (starts i rules) ≡ length rules
-starts_length i [] = refl
-starts_length i (e ∷ es) = ap suc (starts_length (i + size e) es)

@@ -15,22 +15,20 @@ pub fn first_missing(book: &Book) -> Option<u16>
 {
     let classes = book.classes.count();
     let rules = book.roots.count();
-    for i in 0..book.table.count() {
-        let node = book.table.node(i);
-        if is_missing(node.operator, classes, rules) {
-            return Some(node.place);
-        }
-    }
-    None
+    book.table
+        .nodes()
+        .iter()
+        .find(|node| is_missing(node.operator, classes, rules))
+        .map(|node| node.place)
 }
 
 // Whether the operator names a class or a rule that is not there.
-fn is_missing(operator: Operator, classes: u8, rules: u8) -> bool
+fn is_missing(operator: Operator, classes: usize, rules: usize) -> bool
     ensures { result ≡ lacks classes rules operator }
 {
     match operator {
-        Operator::Term(class) => class >= classes as u32,
-        Operator::Call(rule) => rule >= rules as u32,
+        Operator::Term(class) => class as usize >= classes,
+        Operator::Call(rule) => rule as usize >= rules,
         _ => false,
     }
 }

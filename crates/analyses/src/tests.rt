@@ -97,12 +97,7 @@ fn in_order() -> Book
 // Whether exactly these rules are nullable, and no number past them is marked.
 fn nullable(book: &Book, rules: &[bool]) -> bool {
     let marks = nullable_rules(book);
-    for n in 0..32 {
-        if marks[n] != (n < rules.len() && rules[n]) {
-            return false;
-        }
-    }
-    true
+    marks.starts_with(rules) && marks.iter().skip(rules.len()).all(|mark| !*mark)
 }
 
 #[test]

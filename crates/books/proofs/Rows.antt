@@ -7,11 +7,11 @@ use Rattle.tokens.specs.Out.{Out, ok, no, inside}
 use Rattle.tokens.specs.Spots.{spot}
 use Rattle.tokens.specs.declared.token.Token.{Token}
 use Rattle.grammar.specs.declared.table.Table.{Table}
-use Rattle.grammar.specs.declared.roots.Roots.{Roots}
+use Rattle.grammar.specs.declared.limited.Limited.{Limited}
 use Rattle.grammar.specs.Expr.{Expr, size}
 use Rattle.grammar.specs.Allowed.{past, line_width, sizes}
 use Rattle.grammar.specs.Spelling.{width}
-use Rattle.grammar.specs.Tables.{laid, rooted}
+use Rattle.grammar.specs.Tables.{laid, listed}
 use Rattle.grammar.specs.Layout.{flat, flats, starts}
 use Rattle.grammar.proofs.Widths.{flat_length}
 use Rattle.books.specs.declared.fault.ExprFault.{ExprFault}
@@ -222,7 +222,7 @@ onward_end : (rd : ℕ → List ℕ → Out BookFault (List Expr)) (es : List Ex
 onward_end rd es at [] h = refl
 onward_end rd es at (x ∷ xs) h = absurd (omega arith)
 
-pub begun_none : (bs : List ℕ) (start : ℕ) (T : Table) (R : Roots) → start ≤ length bs → laid T ≡ [] → rooted R ≡ [] → Begun bs start T R start
+pub begun_none : (bs : List ℕ) (start : ℕ) (T : Table) (R : Limited ℕ 32) → start ≤ length bs → laid T ≡ [] → listed R ≡ [] → Begun bs start T R start
 begun_none bs start T R w l r =
     record {
       trees = [];
@@ -234,22 +234,22 @@ begun_none bs start T R w l r =
       within = w;
     }
 
-module _ (bs : List ℕ) (start : ℕ) (T T' : Table) (R : Roots) (at : ℕ) (b : Begun bs start T R at) (left : ℕ) (rest : left ≡ 32 - length (rooted R)) where
+module _ (bs : List ℕ) (start : ℕ) (T T' : Table) (R : Limited ℕ 32) (at : ℕ) (b : Begun bs start T R at) (left : ℕ) (rest : left ≡ 32 - length (listed R)) where
   pub begun_no : {e : BookFault} → rule_line bs left (count T) at (drop at bs) ≡ no e → rule_lines bs 32 [] 0 start (drop start bs) ≡ no e
   begun_no e = sym b.goes ∙ rules_no bs _ _ _ _ _ (ap (λ k. rule_line bs k (count T) at (drop at bs)) (sym rest) ∙ e)
 
-  module _ (next : ℕ) (g : Lined left bs at T T' next) (R' : Roots) (added : rooted R' ≡ rooted R ++ (count T ∷ [])) where
+  module _ (next : ℕ) (g : Lined left bs at T T' next) (R' : Limited ℕ 32) (added : listed R' ≡ listed R ++ (count T ∷ [])) where
     more : List Expr
     more = b.trees ++ (g.tree ∷ [])
 
-    longer : length (rooted R') ≡ length (rooted R) + 1
-    longer = ap length added ∙ length_push (rooted R) (count T)
+    longer : length (listed R') ≡ length (listed R) + 1
+    longer = ap length added ∙ length_push (listed R) (count T)
 
-    on : rule_lines bs 32 [] 0 start (drop start bs) ≡ onward (rule_lines bs (32 - length (rooted R')) more (count T + size g.tree)) more next (drop next bs)
+    on : rule_lines bs 32 [] 0 start (drop start bs) ≡ onward (rule_lines bs (32 - length (listed R')) more (count T + size g.tree)) more next (drop next bs)
     unfolding more
     on =
         let p = g.positive in
-        sym b.goes ∙ rules_on bs (32 - length (rooted R)) (32 - length (rooted R')) b.trees (count T) at (drop at bs) (omega (arith, longer, rest)) (ap (λ k. rule_line bs k (count T) at (drop at bs)) (sym rest) ∙ g.says)
+        sym b.goes ∙ rules_on bs (32 - length (listed R)) (32 - length (listed R')) b.trees (count T) at (drop at bs) (omega (arith, longer, rest)) (ap (λ k. rule_line bs k (count T) at (drop at bs)) (sym rest) ∙ g.says)
 
     counted : count T ≡ sizes b.trees
     counted = ap length b.wrote ∙ flats_length 0 start b.trees
@@ -262,7 +262,7 @@ module _ (bs : List ℕ) (start : ℕ) (T T' : Table) (R : Roots) (at : ℕ) (b 
         ∙ ap (λ a. flats 0 start b.trees ++ flat (0 + sizes b.trees) (past a (codes "rule")) g.tree) b.moved
         ∙ sym (flats_push 0 start b.trees g.tree)
 
-    begins_more : rooted R' ≡ starts 0 more
+    begins_more : listed R' ≡ starts 0 more
     unfolding more
     begins_more = added ∙ ap (λ xs. xs ++ (count T ∷ [])) b.begins ∙ ap (λ n. starts 0 b.trees ++ (n ∷ [])) (counted ∙ sym (zero-add _)) ∙ sym (starts_push 0 b.trees g.tree)
 
@@ -276,8 +276,8 @@ module _ (bs : List ℕ) (start : ℕ) (T T' : Table) (R : Roots) (at : ℕ) (b 
         record {
           trees = more;
           goes =
-              ap (λ n. rule_lines bs (32 - length (rooted R')) more n next (drop next bs)) counted_more
-              ∙ sym (onward_more (rule_lines bs (32 - length (rooted R')) more (count T + size g.tree)) _ next (drop next bs) (simp length-drop (omega arith)))
+              ap (λ n. rule_lines bs (32 - length (listed R')) more n next (drop next bs)) counted_more
+              ∙ sym (onward_more (rule_lines bs (32 - length (listed R')) more (count T + size g.tree)) _ next (drop next bs) (simp length-drop (omega arith)))
               ∙ sym on;
           wrote = wrote_more;
           begins = begins_more;
@@ -291,7 +291,7 @@ module _ (bs : List ℕ) (start : ℕ) (T T' : Table) (R : Roots) (at : ℕ) (b 
     begun_done h =
         record {
           trees = more;
-          says = on ∙ onward_end (rule_lines bs (32 - length (rooted R')) more (count T + size g.tree)) _ next (drop next bs) (simp length-drop (omega arith)) ∙ ap (λ k. ok more k []) h;
+          says = on ∙ onward_end (rule_lines bs (32 - length (listed R')) more (count T + size g.tree)) _ next (drop next bs) (simp length-drop (omega arith)) ∙ ap (λ k. ok more k []) h;
           wrote = wrote_more;
           begins = begins_more;
         }

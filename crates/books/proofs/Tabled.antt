@@ -2,9 +2,8 @@
 use Rattle.std.proofs.Common.{◌≡◌, ℕ, ◌+◌, ◌≤◌, Bool, List, [], ◌∷◌, ◌++◌, length, drop, decimal, sym, ap, ◌∙◌, arith, length-append, length-drop}
 use Rattle.kinds.specs.declared.class.Class.{Class}
 use Rattle.tokens.specs.Out.{ok, no}
-use Rattle.grammar.specs.declared.classes.Classes.{Classes}
+use Rattle.grammar.specs.declared.limited.Limited.{Limited}
 use Rattle.grammar.specs.declared.table.Table.{Table}
-use Rattle.grammar.specs.declared.roots.Roots.{Roots}
 use Rattle.grammar.specs.Expr.{Expr, Grammar, nesting}
 use Rattle.grammar.specs.Spelling.{spell_classes}
 use Rattle.grammar.specs.Allowed.{Each, NumbersFit}
@@ -51,7 +50,7 @@ module _ (lawful : Class → Bool) (bs : List ℕ) where
         let e : length bs ≡ length (spell_classes cs []) + length (drop start bs) = ap length p.bytes ∙ ap (λ k. length (spell_classes k (drop start bs))) (sym c) ∙ classes_length cs (drop start bs) in
         omega (arith, e, length-drop start bs)
 
-    module _ (T : Table) (R : Roots) (r : Ruled bs start T R) where
+    module _ (T : Table) (R : Limited ℕ 32) (r : Ruled bs start T R) where
       pub held : Grammar
       held = record { classes = cs; rules = r.trees }
 
@@ -59,7 +58,7 @@ module _ (lawful : Class → Bool) (bs : List ℕ) where
       unfolding reading held
       held_read = after_ok _ read ∙ after_ok _ r.says
 
-      pub tabled : (C : Classes) → listed C ≡ cs → Lays C T R (length bs) held
+      pub tabled : (C : Limited Class 64) → listed C ≡ cs → Lays C T R (length bs) held
       unfolding held
       tabled C c =
           let s = given_at (reading_sound lawful bs) held_read in

@@ -3,10 +3,10 @@ use Rattle.std.specs.Prelude.{◌≡◌, ℕ, ◌+◌, ◌-◌, ◌<◌, ◌≤�
 use Rattle.tokens.specs.Out.{Out, ok}
 use Rattle.grammar.specs.declared.node.Operator.{Operator}
 use Rattle.grammar.specs.declared.table.Table.{Table}
-use Rattle.grammar.specs.declared.roots.Roots.{Roots}
+use Rattle.grammar.specs.declared.limited.Limited.{Limited}
 use Rattle.grammar.specs.Expr.{Expr}
 use Rattle.grammar.specs.Allowed.{past, line_width}
-use Rattle.grammar.specs.Tables.{laid, rooted}
+use Rattle.grammar.specs.Tables.{laid, listed}
 use Rattle.grammar.specs.Layout.{operator_of, below, flat, flats, starts}
 use Rattle.books.specs.declared.fault.BookFault.{BookFault}
 use Rattle.books.specs.Reading.{rule_line, rule_lines}
@@ -49,18 +49,18 @@ line_widths [] = 0
 line_widths (e ∷ es) = line_width e + line_widths es
 
 -- The rule lines that are read so far, the first of them at `start`.
-pub record Begun (bs : List ℕ) (start : ℕ) (table : Table) (roots : Roots) (at : ℕ) : Type 0 where
+pub record Begun (bs : List ℕ) (start : ℕ) (table : Table) (roots : Limited ℕ 32) (at : ℕ) : Type 0 where
   pub trees : List Expr
-  pub goes : rule_lines bs (32 - length (rooted roots)) trees (count table) at (drop at bs) ≡ rule_lines bs 32 [] 0 start (drop start bs)
+  pub goes : rule_lines bs (32 - length (listed roots)) trees (count table) at (drop at bs) ≡ rule_lines bs 32 [] 0 start (drop start bs)
   pub wrote : laid table ≡ flats 0 start trees
-  pub begins : rooted roots ≡ starts 0 trees
-  pub most : length (rooted roots) ≤ 32
+  pub begins : listed roots ≡ starts 0 trees
+  pub most : length (listed roots) ≤ 32
   pub moved : at ≡ start + line_widths trees
   pub within : at ≤ length bs
 
 -- All rule lines are read, and the tables have got them.
-pub record Ruled (bs : List ℕ) (start : ℕ) (table : Table) (roots : Roots) : Type 0 where
+pub record Ruled (bs : List ℕ) (start : ℕ) (table : Table) (roots : Limited ℕ 32) : Type 0 where
   pub trees : List Expr
   pub says : rule_lines bs 32 [] 0 start (drop start bs) ≡ ok trees (length bs) []
   pub wrote : laid table ≡ flats 0 start trees
-  pub begins : rooted roots ≡ starts 0 trees
+  pub begins : listed roots ≡ starts 0 trees

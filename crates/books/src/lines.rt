@@ -1,6 +1,6 @@
 ghost use Rattle.std.specs.Prelude.{◌≡◌, ℕ, ◌+◌, ◌<◌, ◌≤◌, [], length, drop, MatchResult};
 ghost use Rattle.tokens.specs.Out.{ok, no};
-ghost use Rattle.grammar.specs.Tables.{listed, rooted};
+ghost use Rattle.grammar.specs.Tables.{listed};
 ghost use Rattle.books.specs.Reading.{line_start_lem, class_numbers_lem, class_line, class_lines, rule_line, rule_lines};
 ghost use Rattle.books.specs.Steps.{Stepped, count, Lined, Ruled};
 
@@ -86,7 +86,7 @@ pub(crate) fn read_classes<K: Kind>(kind: &K, bytes: &[u8]) -> Result<(Classes, 
 }
 
 // Reads the rule line at `at` into the table, where there may be `left` more rules.
-fn read_rule(bytes: &[u8], at: usize, left: u8, table: &mut Table) -> Result<usize, BookFault>
+fn read_rule(bytes: &[u8], at: usize, left: usize, table: &mut Table) -> Result<usize, BookFault>
     requires { (at ≤ length bytes.now) × (length bytes.now ≤ 32768) }
     ensures { MatchResult result
         (λ next. Lined left bytes.now at table.old table.new next)

@@ -5,7 +5,10 @@ use std::process::Abort;
 use tokens::{Spot, TokenFault};
 
 // How many classes, rules and expressions were read; or the fault's number, layer, place and line.
-fn answer<K: Kind>(kind: &K, bytes: &[u8]) -> Result<(u8, u8, u16), (u8, Layer, usize, usize)> {
+fn answer<K: Kind>(
+    kind: &K,
+    bytes: &[u8],
+) -> Result<(usize, usize, u16), (u8, Layer, usize, usize)> {
     match read_book(kind, bytes) {
         Ok(book) => Ok((book.classes.count(), book.roots.count(), book.table.count())),
         Err(fault) => {
@@ -16,7 +19,7 @@ fn answer<K: Kind>(kind: &K, bytes: &[u8]) -> Result<(u8, u8, u16), (u8, Layer, 
 }
 
 // Whether a book of bytes is read, with so many classes, rules and expressions.
-fn reads(rt: &impl Abort, bytes: &[u8], classes: u8, rules: u8, expressions: u16) {
+fn reads(rt: &impl Abort, bytes: &[u8], classes: usize, rules: usize, expressions: u16) {
     assert_eq!(rt; answer(&ByteKind, bytes), Ok((classes, rules, expressions)));
 }
 

@@ -1,8 +1,8 @@
--- How many bytes and how many nodes an expression takes.
-use Rattle.std.proofs.Common.{◌≡◌, ℕ, ◌+◌, List, [], ◌∷◌, length, decimal, refl, arith, length-append}
+-- How many bytes and how many nodes an expression takes, and how many roots the rules have.
+use Rattle.std.proofs.Common.{◌≡◌, ℕ, suc, ◌+◌, List, [], ◌∷◌, length, decimal, refl, ap, arith, length-append}
 use Rattle.grammar.specs.Expr.{Expr, empty, any, term, call, seq, alt, star, not, size}
 use Rattle.grammar.specs.Spelling.{spell, width}
-use Rattle.grammar.specs.Layout.{below, flat}
+use Rattle.grammar.specs.Layout.{below, flat, starts}
 
 pub spell_length : (e : Expr) (r : List ℕ) → length (spell e r) ≡ width e + length r
 spell_length empty r = omega arith
@@ -28,3 +28,7 @@ below_length i at (not a) = omega (arith, below_length (i + 1) (at + 5) a)
 
 pub flat_length : (i at : ℕ) (e : Expr) → length (flat i at e) ≡ size e
 flat_length i at e = omega (arith, below_length (i + 1) at e)
+
+pub starts_length : (i : ℕ) (rules : List Expr) → length (starts i rules) ≡ length rules
+starts_length i [] = refl
+starts_length i (e ∷ es) = ap suc (starts_length (i + size e) es)

@@ -3,12 +3,11 @@ use Rattle.std.proofs.Common.{◌≡◌, ℕ, ◌<◌, ◌≤◌, Bool, true, fa
 use Rattle.std.proofs.lemmas.Bool.{leb-true}
 use Rattle.kinds.specs.declared.class.Class.{Class}
 use Rattle.grammar.specs.declared.book.Book.{Book}
-use Rattle.grammar.specs.declared.classes.Classes.{Classes}
+use Rattle.grammar.specs.declared.limited.Limited.{Limited}
 use Rattle.grammar.specs.declared.table.Table.{Table}
-use Rattle.grammar.specs.declared.roots.Roots.{Roots}
 use Rattle.grammar.specs.Expr.{Grammar}
 use Rattle.grammar.specs.Allowed.{rules_at, sizes, Allowed}
-use Rattle.grammar.specs.Tables.{listed, laid, rooted}
+use Rattle.grammar.specs.Tables.{listed, laid}
 use Rattle.grammar.specs.Layout.{Lays}
 use Rattle.books.proofs.Rows.{flats_length, starts_length}
 use Rattle.books.specs.declared.fault.BookFault.{BookFault}
@@ -21,7 +20,7 @@ use Rattle.station_with_books.specs.Stand.{KeepsBook, Stands, Keeps, load_reply,
 use Rattle.station_with_books.specs.Calls.{Loads, Shows}
 
 -- the counts of the tables are those of the grammar
-pub counted : (C : Classes) (T : Table) (R : Roots) (len : ℕ) (g : Grammar) → Lays C T R len g → (c r e : ℕ) → c ≡ length (listed C) → r ≡ length (rooted R) → e ≡ length (laid T) → ◌≡◌ {A = Counts} (record { classes = c; rules = r; expressions = e }) (counts_of g)
+pub counted : (C : Limited Class 64) (T : Table) (R : Limited ℕ 32) (len : ℕ) (g : Grammar) → Lays C T R len g → (c r e : ℕ) → c ≡ length (listed C) → r ≡ length (listed R) → e ≡ length (laid T) → ◌≡◌ {A = Counts} (record { classes = c; rules = r; expressions = e }) (counts_of g)
 counted C T R len g l c r e p q s =
     let cs : c ≡ length g.classes = p ∙ ap length l.classes_are in
     let rs : r ≡ length g.rules = q ∙ ap length l.roots_are ∙ starts_length 0 g.rules in

@@ -37,8 +37,8 @@ impl<K: Kind> Station<K> {
     {
         let book = read_book(&self.kind, bytes)?;
         let counts = Counts {
-            classes: book.classes.count(),
-            rules: book.roots.count(),
+            classes: book.classes.count() as u8,
+            rules: book.roots.count() as u8,
             expressions: book.table.count(),
         };
         self.book = Some(book);

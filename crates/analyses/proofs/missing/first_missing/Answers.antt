@@ -1,30 +1,24 @@
-use Rattle.std.proofs.Common.{◌≡◌, true, None, arith, get_or}
+use Rattle.std.proofs.Common.{rules, ◌≡◌, Bool, Bor, arith}
 use Rattle.std.proofs.lemmas.Grind.{common_steps}
-use Rattle.grammar.specs.Tables.{laid, blank}
-use Rattle.analyses.specs.Search.{missing_at}
+use borrow.Author.Tests.{tests}
+use Rattle.std.proofs.lemmas.Iterator.{YieldsList-from_slice}
+use Rattle.std.proofs.lemmas.Iterator.Search.{find_from_yields_List}
+use Rattle.std.specs.List.{find}
+use Rattle.std.specs.Option.{option_map}
+use Rattle.grammar.specs.declared.node.Node.{Node}
+use Rattle.grammar.specs.Tables.{laid}
+use Rattle.analyses.specs.Search.{lacks}
 use Rattle.analyses.proofs.Decided.{missing_found, missing_once}
-use Rattle.analyses.proofs.Search.{search_stops, search_ends, first_missing_here, first_missing_lem}
+use Rattle.analyses.proofs.Search.{first_missing_lem}
 use Rattle.analyses.proofs.missing.first_missing.Goals as goal
-
-pub returns-then-is_missing-clause-first : goal.returns-then-is_missing-clause-first
-returns-then-is_missing-clause-first c =
-    let test = missing_at c.count-classes.result c.count-rules.result in
-    let nodes = laid c.args.book.now.table in
-    let passes : test c.loop-i.i (get_or nodes c.loop-i.i blank) ≡ true = grind (arith, common_steps) in
-    let stops = search_stops test nodes c.loop-i.i _ c.loop-i.invariant (omega arith) passes in
-    first_missing_here c.args.book.now c.count-classes.result c.count-rules.result _ c.count-classes.ensures c.count-rules.ensures (cc stops)
-
-pub returns-then-is_missing-clause-found : goal.returns-then-is_missing-clause-found
-returns-then-is_missing-clause-found c = missing_found
-
-pub returns-then-is_missing-clause-once : goal.returns-then-is_missing-clause-once
-returns-then-is_missing-clause-once c = missing_once
 
 pub returns-clause-first : goal.returns-clause-first
 returns-clause-first c =
-    let test = missing_at c.count-classes.result c.count-rules.result in
-    let ends = search_ends test (laid c.args.book.now.table) c.loop-i.i _ c.loop-i.invariant (omega arith) in
-    first_missing_lem c.args.book.now c.count-classes.result c.count-rules.result None c.count-classes.ensures c.count-rules.ensures ends
+    let nodes = laid c.args.book.now.table in
+    let test : Node → Bool = λ n. lacks c.count-classes.result c.count-rules.result n.operator in
+    let found : option_map (λ (n : Bor Node). n.now) c.find.result ≡ find test nodes = find_from_yields_List test _ _ c.find.result c.find.ensures.ran (YieldsList-from_slice nodes (cc)) (λ x b q k. search (rules, tests)) in
+    let places : c.map.result ≡ option_map (λ (n : Node). n.place) (find test nodes) = grind (arith, common_steps) in
+    first_missing_lem c.args.book.now _ _ _ c.count-classes.ensures.count c.count-rules.ensures.count places
 
 pub returns-clause-found : goal.returns-clause-found
 returns-clause-found c = missing_found

@@ -1,4 +1,3 @@
-use Rattle.std.proofs.Common.{◌≡◌, length}
 use Rattle.grammar.specs.Expr.{Grammar}
 use Rattle.grammar.specs.Held.{Holds}
 use Rattle.analyses.specs.Nulls.{Sound}
@@ -6,7 +5,7 @@ use Rattle.analyses.specs.Rounds.{unmarked}
 use Rattle.analyses.proofs.nullable.nullable_rules.Given as goal
 
 abbrev pub invariant-loop-marks : goal.invariant-loop-marks
-invariant-loop-marks l = (length l.marks ≡ 32) × ((g : Grammar) → Holds l.book g → Sound g.rules l.marks)
+invariant-loop-marks l = (g : Grammar) → Holds l.book g → Sound g.rules l.marks
 
 abbrev pub decreases-loop-marks : goal.decreases-loop-marks
 decreases-loop-marks l = unmarked l.marks

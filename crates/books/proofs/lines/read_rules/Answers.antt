@@ -1,7 +1,7 @@
 use Rattle.std.proofs.Common.{[], ◌∷◌, ◌++◌, length, ap, ◌∙◌, arith}
 use Rattle.std.proofs.lemmas.List.{length_push}
 use Rattle.std.proofs.lemmas.Result.{err_from_is_err_and}
-use Rattle.grammar.specs.Tables.{rooted}
+use Rattle.grammar.specs.Tables.{listed}
 use Rattle.books.proofs.Rows.{begun_none, begun_no, begun_more, begun_done, pushed}
 use Rattle.books.proofs.lines.read_rules.Goals as goal
 
@@ -17,18 +17,18 @@ pub returns-then-at-bytes : goal.returns-then-at-bytes
 returns-then-at-bytes c =
     let lined = c.in_ok-at.ensures in
     let room = lined.positive in
-    let roots = pushed 32 (rooted c.loop-at.roots) _ _ (omega arith) c.push.ensures ∙ ap (λ n. rooted c.loop-at.roots ++ (n ∷ [])) c.count-root.ensures in
+    let roots = pushed 32 (listed c.loop-at.roots) _ _ (omega arith) c.push.ensures ∙ ap (λ n. listed c.loop-at.roots ++ (n ∷ [])) c.count-root.ensures in
     begun_done _ _ _ _ _ _ c.loop-at.invariant _ (omega arith) _ lined _ roots (omega arith)
 
 pub loop-at-smaller : goal.loop-at-smaller
 loop-at-smaller c =
     let room = c.in_ok-at.ensures.positive in
-    let roots = pushed 32 (rooted c.loop-at.roots) _ _ (omega arith) c.push.ensures in
-    omega (arith, ap length roots, length_push (rooted c.loop-at.roots) c.count-root.result)
+    let roots = pushed 32 (listed c.loop-at.roots) _ _ (omega arith) c.push.ensures in
+    omega (arith, ap length roots, length_push (listed c.loop-at.roots) c.count-root.result)
 
 pub loop-at-preserved : goal.loop-at-preserved
 loop-at-preserved c =
     let lined = c.in_ok-at.ensures in
     let room = lined.positive in
-    let roots = pushed 32 (rooted c.loop-at.roots) _ _ (omega arith) c.push.ensures ∙ ap (λ n. rooted c.loop-at.roots ++ (n ∷ [])) c.count-root.ensures in
+    let roots = pushed 32 (listed c.loop-at.roots) _ _ (omega arith) c.push.ensures ∙ ap (λ n. listed c.loop-at.roots ++ (n ∷ [])) c.count-root.ensures in
     begun_more _ _ _ _ _ _ c.loop-at.invariant _ (omega arith) _ lined _ roots (omega (arith, lined.within))
