@@ -12,8 +12,9 @@ use Rattle.grammar.specs.Spelling.{spell, spell_class, spell_classes, spell_rule
 use Rattle.grammar.specs.Allowed.{past, line_width, Each, rules_at}
 use Rattle.grammar.specs.Layout.{flat, flats, starts}
 use Rattle.grammar.specs.Tables.{laid, listed}
+use Rattle.grammar.proofs.Widths.{flat_length}
 use Rattle.writing.specs.Walk.{walked, class_lines, rule_lines, book_lines}
-use Rattle.writing.proofs.Spelled.{walked_spells, size_flat, spell_append}
+use Rattle.writing.proofs.Spelled.{walked_spells, spell_append}
 
 -- What follows a class line stands past it.
 class_more : (c : Class) (r q : List ℕ) → spell_class c (r ++ q) ≡ spell_class c r ++ q
@@ -35,7 +36,7 @@ rules_spelled (e ∷ es) front i at len low =
     let after = flats (i + size e) (at + line_width e) es in
     let nodes = front ++ (here ++ after) in
     let walk : walked i [] (drop i nodes) ≡ 32 ∷ spell e [] = ap (walked i []) (drop_at front (here ++ after) i len) ∙ walked_spells e i p [] after (omega (arith, low.0)) in
-    let long : length (front ++ here) ≡ i + size e = length-append front here ∙ omega (arith, size_flat e i p) in
+    let long : length (front ++ here) ≡ i + size e = length-append front here ∙ omega (arith, flat_length i p e) in
     let others : rule_lines nodes (starts (i + size e) es) ≡ spell_rules es = ap (λ l. rule_lines l (starts (i + size e) es)) (sym (append_assoc front here after)) ∙ rules_spelled es (front ++ here) (i + size e) (at + line_width e) long low.1 in
     let lines = rule_lines nodes (starts (i + size e) es) in
     ap (λ l. (codes "(rule" ++ (l ++ codes ")\n")) ++ lines) walk

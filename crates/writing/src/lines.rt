@@ -34,7 +34,7 @@ impl Writer<'_> {
     }
 
     /// Writes the lines of the classes, and then those of the rules.
-    pub fn put_book(&mut self, book: &Book)
+    pub(crate) fn put_book(&mut self, book: &Book)
         requires { Room (book_lines book.now) self.old }
         ensures { Put (book_lines book.now) self.old self.new }
     {

@@ -69,7 +69,7 @@ impl Writer<'_> {
     }
 
     /// Writes a space and the expression whose node is `start`.
-    pub fn put_expr(&mut self, table: &Table, start: u16)
+    pub(crate) fn put_expr(&mut self, table: &Table, start: u16)
         requires { Room (walked start [] (drop start (laid table.now))) self.old }
         ensures { Put (walked start [] (drop start (laid table.now))) self.old self.new }
     {

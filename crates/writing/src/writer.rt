@@ -16,7 +16,7 @@ impl Writer<'_> {
 
     /// Writes the bytes.
     #[tactic(auto, using(std::proofs::lemmas::Slice::overwrites))]
-    pub fn put(&mut self, bytes: &[u8])
+    pub(crate) fn put(&mut self, bytes: &[u8])
         requires { Room bytes.now self.old }
         ensures { Put bytes.now self.old self.new }
     {
@@ -26,7 +26,7 @@ impl Writer<'_> {
     }
 
     /// Writes a space and a number in decimal digits.
-    pub fn put_number(&mut self, number: u32)
+    pub(crate) fn put_number(&mut self, number: u32)
         requires { Room (number_bytes number) self.old }
         ensures { Put (number_bytes number) self.old self.new }
     {
