@@ -9,6 +9,7 @@ use grammar::Book;
 
 /// Writes the book into `out` and answers how many bytes that took; bytes past them stay. Answers
 /// none, and touches nothing, when `out` is too short.
+#[tactic(auto, using(crate::proofs::Held::lines_count))]
 pub fn write_book(book: &Book, out: &mut [u8]) -> Option<usize>
     ensures answer { result ≡ (if nat_le book.now.length (length out.old) then Some book.now.length else None) }
     ensures refused { result ≡ None → out.new ≡ out.old }

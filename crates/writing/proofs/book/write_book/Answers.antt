@@ -5,9 +5,6 @@ use Rattle.writing.proofs.Puts.{front}
 use Rattle.writing.proofs.Held.{lines_spell, lines_count}
 use Rattle.writing.proofs.book.write_book.Goals as goal
 
-pub put_book-requires : goal.put_book-requires
-put_book-requires c = omega (arith, lines_count c.args.book.now)
-
 pub returns-clause-answer : goal.returns-clause-answer
 returns-clause-answer c =
     let book = c.args.book.now in
