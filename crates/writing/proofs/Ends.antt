@@ -1,5 +1,5 @@
 -- The stack's records, the top last, and their ends, the innermost first.
-use Rattle.std.proofs.Common.{◌≡◌, ℕ, ◌+◌, ◌<◌, Bool, true, false, cond, eqb, ltb, List, [], ◌∷◌, ◌++◌, length, map, reverse, Some, None, Option, Ok, Err, is_ok, Result, sym, refl, ap, ◌∙◌, arith}
+use Rattle.std.proofs.Common.{◌≡◌, ℕ, ◌<◌, true, false, cond, eqb, ltb, List, [], ◌∷◌, ◌++◌, length, Some, None, Option, Ok, Err, is_ok, Result, sym, ap, ◌∙◌, arith}
 use Rattle.std.proofs.lemmas.Grind.{common_steps}
 use Rattle.std.proofs.lemmas.Bool.Decides.{nat_tests}
 use Rattle.std.proofs.lemmas.List.{length-map, length-reverse, map_push, reverse-append}
@@ -21,11 +21,6 @@ top_none i xs is_top = ap (λ l. ends_at i (ends l)) (ends_in xs None is_top).0
 
 pub top_some : (i : ℕ) (xs : List OpenExpr) (x : OpenExpr) → Some x ≡ last xs → ends_at i (ends xs) ≡ eqb x.end i
 top_some i xs x is_top = ap (λ l. ends_at i (ends l)) (ends_in xs (Some x) is_top) ∙ ap (ends_at i) (ends_pushed (front xs) x)
-
--- Where the innermost does not end, none is closed.
-pub stopped : (i : ℕ) (st : List ℕ) → ends_at i st ≡ false → (closings i st ≡ []) × (still_open i st ≡ st)
-stopped i [] h = (refl, refl)
-stopped i (end ∷ st) h = (rw h, rw h)
 
 -- The innermost ends: its record comes off.
 pub record Closed (i : ℕ) (xs ys : List OpenExpr) : Type 0 where

@@ -1,5 +1,5 @@
 -- What the walk writes of an expression's nodes is how the expression is spelled.
-use Rattle.std.proofs.Common.{◌≡◌, ℕ, ◌+◌, ◌<◌, ◌≤◌, List, ◌∷◌, ◌++◌, length, codes, decimal, sym, refl, ap, ◌∙◌, arith, length-append}
+use Rattle.std.proofs.Common.{◌≡◌, ℕ, ◌+◌, ◌<◌, ◌≤◌, List, ◌∷◌, ◌++◌, length, codes, decimal, sym, refl, ap, ◌∙◌, arith}
 use Rattle.std.proofs.lemmas.List.{append_assoc}
 use Rattle.std.proofs.lemmas.Bool.{lt-ltb, eq-eqb, ne_eqb}
 use Rattle.grammar.specs.declared.node.Node.{Node}
@@ -11,7 +11,7 @@ use Rattle.grammar.proofs.Widths.{below_length}
 use Rattle.writing.specs.Walk.{opening, closings, still_open, while_open, walked}
 
 -- The bytes from the node i on, when those that end there are not closed yet.
-abbrev resumed : ℕ → List ℕ → List Node → List ℕ
+abbrev pub resumed : ℕ → List ℕ → List Node → List ℕ
 resumed i st nodes = closings i st ++ while_open (still_open i st) (walked i (still_open i st) nodes)
 
 -- An expression that ends here is closed.

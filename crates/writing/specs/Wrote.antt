@@ -15,8 +15,8 @@ Room bytes writer = length bytes ≤ length (left writer)
 
 -- The bytes are written after the others, over as many bytes of the buffer; the rest is as before, and the buffer the same.
 pub record Put (bytes : List ℕ) (old new : Writer) : Type 0 where
-  pub more : written new ≡ written old ++ bytes
-  pub less : left new ≡ drop (length bytes) (left old)
+  pub added : written new ≡ written old ++ bytes
+  pub rest : left new ≡ drop (length bytes) (left old)
   pub lent : new.out.ghost_name ≡ old.out.ghost_name
 
 -- Either the bytes were written to the front, n of them, and past them the buffer is as before; or it was too short for them and is as before.

@@ -34,6 +34,7 @@ impl Writer<'_> {
     }
 
     /// Writes the lines of the classes, and then those of the rules.
+    // In `write_book` itself the loops would lose what the lent buffer holds afterwards.
     pub(crate) fn put_book(&mut self, book: &Book)
         requires { Room (book_lines book.now) self.old }
         ensures { Put (book_lines book.now) self.old self.new }

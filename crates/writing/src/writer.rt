@@ -4,6 +4,7 @@ ghost use Rattle.writing.specs.Walk.{number_bytes};
 use itoa::Buffer;
 
 /// Writes bytes into a buffer, piece after piece.
+// The count stands beside the buffer, for the buffer is lent: the libraries of this project use no heap.
 #[derive(Drop)]
 pub(crate) struct Writer<'a> {
     pub out: &'a mut [u8],

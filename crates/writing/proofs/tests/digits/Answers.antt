@@ -1,4 +1,4 @@
-use Rattle.std.proofs.Common.{arith, decimal, length}
+use Rattle.std.proofs.Common.{arith}
 use Rattle.std.proofs.lemmas.Fmt.{length-decimal-le}
 use Rattle.writing.proofs.tests.digits.Goals as goal
 

@@ -1,5 +1,4 @@
 use Rattle.std.proofs.Common.{[], ◌∷◌, refl, arith, rules}
-use Rattle.std.proofs.lemmas.Grind.{common_steps}
 use Rattle.std.specs.Fmt.{digits}
 use Rattle.grammar.specs.Expr.{Grammar, empty, any, term, call, seq, alt, star, not}
 use Rattle.writing.proofs.tests.sample.Goals as goal

@@ -1,5 +1,4 @@
-use Rattle.std.proofs.Common.{rules}
-use Rattle.writing.proofs.Puts.{two, room}
+use Rattle.writing.proofs.Puts.{two}
 use Rattle.writing.proofs.writer.Writer.put_rule.Goals as goal
 
 pub returns : goal.returns
