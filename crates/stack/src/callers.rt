@@ -1,7 +1,7 @@
 //! Three callers of a stack, proved from its contracts alone: they show that these say enough.
 
 ghost use Rattle.std.specs.Prelude.{◌≡◌, ◌≤◌, [], ◌∷◌, ◌++◌, length, Some, None, slice_set};
-ghost use Rattle.stack.specs.Held.{held, last, front};
+ghost use Rattle.stack.specs.Held.{held, last, front, SameLoan};
 
 use crate::stack::Stack;
 
@@ -10,10 +10,7 @@ fn in_reverse(first: u16, second: u16) -> [Option<u16>; 3]
     ensures { result ≡ (Some second ∷ (Some first ∷ (None ∷ []))) }
 {
     let mut records = [0; 64];
-    let mut stack = Stack {
-        records: &mut records,
-        depth: 0,
-    };
+    let mut stack = Stack::new(&mut records);
     let _ = stack.push(first);
     let _ = stack.push(second);
     let top = stack.pop();
@@ -27,7 +24,7 @@ fn push_and_pop<R: Copy>(records: &mut [R], first: R, second: R) -> Option<R>
     ensures top { result ≡ Some second }
     ensures slice { records.new ≡ slice_set (slice_set records.old 0 first) 1 second }
 {
-    let mut stack = Stack { records, depth: 0 };
+    let mut stack = Stack::new(records);
     let _ = stack.push(first);
     let _ = stack.push(second);
     stack.pop()
@@ -38,8 +35,7 @@ fn replace_top<R: Copy>(stack: &mut Stack<'_, R>, other: R) -> Option<R>
     requires { 1 ≤ length (held stack.old) }
     ensures top { result ≡ last (held stack.old) }
     ensures held { held stack.new ≡ front (held stack.old) ++ (other ∷ []) }
-    ensures size { length stack.new.records.now ≡ length stack.old.records.now }
-    ensures lent { stack.new.records.ghost_name ≡ stack.old.records.ghost_name }
+    ensures same { SameLoan stack.old stack.new }
 {
     let top = stack.pop();
     let _ = stack.push(other);

@@ -1,25 +1,25 @@
-ghost use Rattle.std.specs.Prelude.{◌≡◌, ◌+◌, ◌-◌, [], ◌∷◌, ◌++◌, length, if◌then◌else◌, ◌==◌, nat_lt, slice_set};
-ghost use Rattle.std.specs.List.{slice_get};
-ghost use Rattle.stack.specs.Held.{held, last, front, Taken};
+ghost use Rattle.std.specs.Prelude.{◌≡◌, ◌+◌, ◌-◌, [], ◌∷◌, ◌++◌, length, if◌then◌else◌, ◌==◌, nat_lt, slice_set, Ok, Err, is_ok};
+ghost use Rattle.stack.specs.Held.{held, last, front, Taken, SameLoan};
 
 /// A stack of records in a slice that its owner lends.
 ///
 /// It holds the first `depth` records of the slice, the top last: all of them if `depth` is greater
-/// than the slice is long. An empty one is `Stack { records, depth: 0 }`.
+/// than the slice is long.
+// The depth stands beside the slice, for the memory is lent: the libraries of this project use no heap.
 #[derive(Drop)]
 pub struct Stack<'a, R> {
     pub records: &'a mut [R],
     pub depth: usize,
 }
 
-// The record at a place, if the slice is that long.
-fn record_at<R: Copy>(records: &[R], place: usize) -> Option<R>
-    ensures { result ≡ slice_get records.now place }
-{
-    if place < records.len() {
-        Some(records[place])
-    } else {
-        None
+impl<'a, R> Stack<'a, R> {
+    /// An empty stack over a slice.
+    pub fn new(records: &'a mut [R]) -> Stack<'a, R>
+        ensures depth { result.depth ≡ 0 }
+        ensures slice { result.records.now ≡ records.old }
+        ensures lent { result.records.ghost_name ≡ records.entry.ghost_name }
+    {
+        Stack { records, depth: 0 }
     }
 }
 
@@ -39,45 +39,38 @@ impl<R: Copy> Stack<'_, R> {
     }
 
     /// The record that was pushed last, if one is held.
-    #[tactic(auto, using(crate::proofs::Tops::top_at))]
     pub fn top(&self) -> Option<R>
         ensures { result ≡ last (held self.now) }
     {
-        let count = self.len();
-        if count == 0 {
-            None
-        } else {
-            record_at(self.records, count - 1)
-        }
+        self.records[..self.len()].last().copied()
     }
 
-    /// Puts a record on the top, and answers whether there was room for it.
-    pub fn push(&mut self, pushed: R) -> bool
-        ensures room { result ≡ nat_lt self.old.depth (length self.old.records.now) }
-        ensures held { held self.new ≡ (if result then held self.old ++ (pushed ∷ []) else held self.old) }
-        ensures depth { self.new.depth ≡ (if result then self.old.depth + 1 else self.old.depth) }
-        ensures slice { self.new.records.now ≡ (if result then slice_set self.old.records.now self.old.depth pushed else self.old.records.now) }
-        ensures size { length self.new.records.now ≡ length self.old.records.now }
-        ensures lent { self.new.records.ghost_name ≡ self.old.records.ghost_name }
+    /// Puts a record on the top, or hands it back if there is no room for it.
+    pub fn push(&mut self, pushed: R) -> Result<(), R>
+        ensures room { result ≡ (if nat_lt self.old.depth (length self.old.records.now) then Ok tt else Err pushed) }
+        ensures held { held self.new ≡ (if is_ok result then held self.old ++ (pushed ∷ []) else held self.old) }
+        ensures depth { self.new.depth ≡ (if is_ok result then self.old.depth + 1 else self.old.depth) }
+        ensures slice { self.new.records.now ≡ (if is_ok result then slice_set self.old.records.now self.old.depth pushed else self.old.records.now) }
+        ensures same { SameLoan self.old self.new }
     {
         if self.depth < self.records.len() {
             self.records[self.depth] = pushed;
             self.depth += 1;
-            true
+            Ok(())
         } else {
-            false
+            Err(pushed)
         }
     }
 
+    #[tactic(auto, using(crate::proofs::Tops::taken_last))]
     /// Takes the top off, if a record is held. The slice stays as it is.
-    #[tactic(auto, using(crate::proofs::Tops::one_fewer, crate::proofs::Tops::taken))]
     pub fn pop(&mut self) -> Option<R>
         ensures top { result ≡ last (held self.old) }
         ensures held { held self.new ≡ front (held self.old) }
         ensures taken { Taken (held self.old) result (held self.new) }
         ensures depth { self.new.depth ≡ length (held self.old) - 1 }
         ensures slice { self.new.records.now ≡ self.old.records.now }
-        ensures lent { self.new.records.ghost_name ≡ self.old.records.ghost_name }
+        ensures same { SameLoan self.old self.new }
     {
         let top = self.top();
         self.depth = self.len().saturating_sub(1);

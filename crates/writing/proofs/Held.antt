@@ -1,6 +1,6 @@
 -- The lines of a book whose tables hold a grammar.
-use Rattle.std.proofs.Common.{◌≡◌, ℕ, ◌+◌, ◌<◌, ◌≤◌, List, [], ◌∷◌, ◌++◌, length, get_or, drop, codes, decimal, sym, refl, ap, ◌∙◌, arith, length-append}
-use Rattle.std.proofs.lemmas.List.{append_assoc, drop_at, drop_more, drop_all}
+use Rattle.std.proofs.Common.{◌≡◌, ℕ, ◌+◌, ◌≤◌, List, [], ◌∷◌, ◌++◌, length, drop, codes, decimal, sym, refl, ap, ◌∙◌, arith, length-append}
+use Rattle.std.proofs.lemmas.List.{append_assoc, drop_at}
 use mathlib.Core.Logic.{∥∥₁_elim}
 use native.Mathlib.Nat.{ℕ_set}
 use Rattle.grammar.specs.declared.book.Book.{Book}
@@ -12,8 +12,9 @@ use Rattle.grammar.specs.Spelling.{spell, spell_class, spell_classes, spell_rule
 use Rattle.grammar.specs.Allowed.{past, line_width, Each, rules_at}
 use Rattle.grammar.specs.Layout.{flat, flats, starts}
 use Rattle.grammar.specs.Tables.{laid, listed}
-use Rattle.writing.specs.Walk.{number_bytes, walked, rule_line, rule_lines, book_lines}
-use Rattle.writing.proofs.Spelled.{walked_spells, size_flat, spell_append}
+use Rattle.grammar.proofs.Widths.{flat_length}
+use Rattle.writing.specs.Walk.{walked, class_lines, rule_lines, book_lines}
+use Rattle.writing.proofs.Spelled.{walked_spells, spell_append}
 
 -- What follows a class line stands past it.
 class_more : (c : Class) (r q : List ℕ) → spell_class c (r ++ q) ≡ spell_class c r ++ q
@@ -22,13 +23,12 @@ class_more c r q =
     (ap (λ l. decimal c.first ++ (32 ∷ l)) (sym (append_assoc (decimal c.second) (41 ∷ (10 ∷ r)) q))
     ∙ sym (append_assoc (decimal c.first) (32 ∷ (decimal c.second ++ (41 ∷ (10 ∷ r)))) q))
 
-classes_more : (cs : List Class) (r : List ℕ) → spell_classes cs r ≡ spell_classes cs [] ++ r
-classes_more [] r = refl
-classes_more (c ∷ cs) r = ap (spell_class c) (classes_more cs r) ∙ class_more c (spell_classes cs []) r
+classes_spelled : (cs : List Class) (r : List ℕ) → spell_classes cs r ≡ class_lines cs ++ r
+classes_spelled [] r = refl
+classes_spelled (c ∷ cs) r = ap (spell_class c) (classes_spelled cs r) ∙ class_more c [] (class_lines cs ++ r) ∙ sym (append_assoc (spell_class c []) (class_lines cs) r)
 
 -- The rules' lines, where the nodes before theirs are `front`.
 rules_spelled : (es : List Expr) (front : List Node) (i at : ℕ) → length front ≡ i → Each (λ e. nesting e ≤ 64) es → rule_lines (front ++ flats i at es) (starts i es) ≡ spell_rules es
-unfolding rule_lines
 rules_spelled [] front i at len low = refl
 rules_spelled (e ∷ es) front i at len low =
     let p = past at (codes "rule") in
@@ -36,53 +36,24 @@ rules_spelled (e ∷ es) front i at len low =
     let after = flats (i + size e) (at + line_width e) es in
     let nodes = front ++ (here ++ after) in
     let walk : walked i [] (drop i nodes) ≡ 32 ∷ spell e [] = ap (walked i []) (drop_at front (here ++ after) i len) ∙ walked_spells e i p [] after (omega (arith, low.0)) in
-    let long : length (front ++ here) ≡ i + size e = length-append front here ∙ omega (arith, size_flat e i p) in
+    let long : length (front ++ here) ≡ i + size e = length-append front here ∙ omega (arith, flat_length i p e) in
     let others : rule_lines nodes (starts (i + size e) es) ≡ spell_rules es = ap (λ l. rule_lines l (starts (i + size e) es)) (sym (append_assoc front here after)) ∙ rules_spelled es (front ++ here) (i + size e) (at + line_width e) long low.1 in
     let lines = rule_lines nodes (starts (i + size e) es) in
     ap (λ l. (codes "(rule" ++ (l ++ codes ")\n")) ++ lines) walk
     ∙ ap (λ l. codes "(rule" ++ (32 ∷ l)) (append_assoc (spell e []) (codes ")\n") lines ∙ sym (spell_append e [] (codes ")\n" ++ lines)))
     ∙ ap (λ l. codes "(rule" ++ (32 ∷ spell e (codes ")\n" ++ l))) others
 
--- The book's lines, as its tables have them.
-abbrev lines : Book → List ℕ
-lines book = book_lines (listed book.classes) (laid book.table) (listed book.roots)
-
--- They are how the grammar is written that the tables hold.
-pub lines_spell : (book : Book) (g : Grammar) → Holds book g → lines book ≡ spelling g
+-- A book's lines are how the grammar is written that its tables hold.
+pub lines_spell : (book : Book) (g : Grammar) → Holds book g → book_lines book ≡ spelling g
 lines_spell book g holds =
     let nodes = laid book.table in
     let roots = listed book.roots in
     let rules : rule_lines nodes roots ≡ spell_rules g.rules =
     ap (λ l. rule_lines l roots) holds.nodes_are ∙ ap (rule_lines (flats 0 (rules_at g) g.rules)) holds.roots_are ∙ rules_spelled g.rules [] 0 (rules_at g) refl holds.shallow in
-    ap (λ l. spell_classes l [] ++ rule_lines nodes roots) holds.classes_are
-    ∙ ap (λ l. spell_classes g.classes [] ++ l) rules
-    ∙ sym (classes_more g.classes (spell_rules g.rules))
+    ap (λ l. class_lines l ++ rule_lines nodes roots) holds.classes_are
+    ∙ ap (λ l. class_lines g.classes ++ l) rules
+    ∙ sym (classes_spelled g.classes (spell_rules g.rules))
 
 -- They are as many bytes as the book says: a book holds some grammar.
-pub lines_count : (book : Book) → length (lines book) ≡ book.length
+pub lines_count : (book : Book) → length (book_lines book) ≡ book.length
 lines_count book = ∥∥₁_elim book.known (ℕ_set _ _) (λ h. ap length (lines_spell book h.0 h.1) ∙ sym h.1.length_is)
-
-pub lines_room : (book : Book) → length (spell_classes (listed book.classes) []) + length (rule_lines (laid book.table) (listed book.roots)) ≡ book.length
-lines_room book = sym (length-append (spell_classes (listed book.classes) []) (rule_lines (laid book.table) (listed book.roots))) ∙ lines_count book
-
--- The line of a class, and those of the classes past it.
-pub classes_turn : (cs : List Class) (i : ℕ) (d : Class) → i < length cs → spell_classes (drop i cs) [] ≡ spell_class (get_or cs i d) [] ++ spell_classes (drop (i + 1) cs) []
-classes_turn cs i d inside = ap (λ l. spell_classes l []) (drop_more cs i d inside) ∙ class_more (get_or cs i d) [] (spell_classes (drop (i + 1) cs) [])
-
-pub classes_past : (cs : List Class) (i : ℕ) → length cs ≤ i → spell_classes (drop i cs) [] ≡ []
-classes_past cs i past = ap (λ l. spell_classes l []) (drop_all i cs past)
-
-pub class_length : (c : Class) → length (spell_class c []) ≡ length (number_bytes c.first) + length (number_bytes c.second) + 8
-class_length c = omega (arith, length-append (decimal c.first) (32 ∷ (decimal c.second ++ (41 ∷ (10 ∷ [])))), length-append (decimal c.second) (41 ∷ (10 ∷ [])))
-
--- The line of a rule, and those of the rules past it.
-pub rules_turn : (nodes : List Node) (ss : List ℕ) (i : ℕ) → i < length ss → rule_lines nodes (drop i ss) ≡ rule_line nodes (get_or ss i 0) ++ rule_lines nodes (drop (i + 1) ss)
-unfolding rule_lines
-rules_turn nodes ss i inside = ap (rule_lines nodes) (drop_more ss i 0 inside)
-
-pub rules_past : (nodes : List Node) (ss : List ℕ) (i : ℕ) → length ss ≤ i → rule_lines nodes (drop i ss) ≡ []
-unfolding rule_lines
-rules_past nodes ss i past = ap (rule_lines nodes) (drop_all i ss past)
-
-pub rule_length : (nodes : List Node) (start : ℕ) → length (rule_line nodes start) ≡ length (walked start [] (drop start nodes)) + 7
-rule_length nodes start = omega (arith, length-append (walked start [] (drop start nodes)) (codes ")\n"))

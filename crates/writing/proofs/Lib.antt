@@ -1,5 +1,4 @@
 pub mod Puts
-pub mod Digits
 pub mod Spelled
 pub mod Ends
 pub mod Turns

@@ -1,60 +1,62 @@
--- Writing into a buffer piece by piece: the end of the buffer, past what is written, is lent to the next piece's writer.
-use Rattle.std.proofs.Common.{◌≡◌, ℕ, ◌+◌, ◌-◌, ◌≤◌, List, [], ◌++◌, length, take, drop, sym, refl, ap, ◌∙◌, subst, arith, length-append, length-drop}
-use borrow.Rule.Slice.PartMut.{put_mid}
-use Rattle.std.proofs.lemmas.List.{append-nil, append_assoc, take_at, drop_at, drop_all, drop-drop, take_rest}
-use Rattle.writing.specs.Wrote.{Put}
+-- Writing piece by piece.
+use Rattle.std.proofs.Common.{◌≡◌, ℕ, ◌+◌, ◌<◌, ◌≤◌, List, [], ◌++◌, length, get_or, take, drop, Some, sym, ap, ◌∙◌, subst, arith, length-append, length-drop}
+use Rattle.std.specs.List.{flat_map}
+use Rattle.std.proofs.lemmas.List.{append-nil, append_assoc, drop-drop, flat_map_more, take_all, take_more, take-append-drop, length-take-le}
+use Rattle.std.proofs.lemmas.List.Folds.{length-flat_map-take}
+use Rattle.writing.specs.declared.writer.Writer.{Writer}
+use Rattle.writing.specs.Wrote.{written, left, Put, Wrote}
 
--- The buffer xs begins with w, of n bytes; its end was lent on, and came back as ys.
-end_lent : (n : ℕ) (w s xs ys : List ℕ) → length w ≡ n → xs ≡ w ++ s → put_mid n (length xs - n) xs ys ≡ w ++ ys
-end_lent n w s xs ys e f =
-    let a : take n xs ≡ w = ap (take n) f ∙ take_at w s n e in
-    let b : drop (length xs - n) (drop n xs) ≡ [] = drop_all (length xs - n) (drop n xs) (simp length-drop (omega arith)) in
-    simp (a, b, append-nil)
+-- Two pieces, one after the other.
+pub two : {a b : List ℕ} {w x y : Writer} → Put a w x → Put b x y → Put (a ++ b) w y
+two {a} {b} {w} {x} {y} p q = record {
+  added = q.added ∙ ap (λ l. l ++ b) p.added ∙ append_assoc (written w) a b;
+  rest = q.rest ∙ ap (drop (length b)) p.rest ∙ drop-drop (length b) (length a) (left w) ∙ ap (λ n. drop n (left w)) (sym (length-append a b));
+  lent = q.lent ∙ p.lent;
+}
 
--- What was written of a whole, and what is left of it, for which there is room.
-pub record Partly (whole rest before : List ℕ) (n : ℕ) (after : List ℕ) : Type 0 where
+-- After the first piece there is room for the second.
+pub room : {a : List ℕ} (b : List ℕ) {w x : Writer} → length (a ++ b) ≤ length (left w) → Put a w x → length b ≤ length (left x)
+room {a} b {w} {x} all p = omega (arith, all, length-append a b, ap length p.rest ∙ length-drop (length a) (left w))
+
+-- What was written of a whole, and what is left to write of it.
+pub record Partly (whole rest : List ℕ) (old new : Writer) : Type 0 where
   pub done : List ℕ
   pub split : whole ≡ done ++ rest
-  pub count : n ≡ length done
-  pub bytes : after ≡ done ++ drop n before
-  pub room : n + length rest ≤ length before
+  pub put : Put done old new
 
-pub none_yet : (whole s : List ℕ) → length whole ≤ length s → Partly whole whole s 0 s
-none_yet whole s room = record { done = []; split = refl; count = refl; bytes = refl; room = omega arith }
+-- The rest is these pieces, and the first is written now.
+pub one_more : {whole rest a more : List ℕ} {w x y : Writer} → Partly whole rest w x → rest ≡ a ++ more → Put a x y → Partly whole more w y
+one_more {a = a} {more = more} p e q = record {
+  done = p.done ++ a;
+  split = p.split ∙ ap (λ l. p.done ++ l) e ∙ sym (append_assoc p.done a more);
+  put = two p.put q;
+}
 
-pub first : (a rest s : List ℕ) (n : ℕ) (xs : List ℕ) → length (a ++ rest) ≤ length s → Put a s n xs → Partly (a ++ rest) rest s n xs
-first a rest s n xs room p =
-    let len : length (a ++ rest) ≡ length a + length rest = length-append a rest in
-    record { done = a; split = refl; count = p.0; bytes = p.1; room = omega (arith, p.0) }
+pub all_put : {whole rest : List ℕ} {w x : Writer} → Partly whole rest w x → rest ≡ [] → Put whole w x
+all_put {w = w} {x = x} p e = subst (λ l. Put l w x) (sym (p.split ∙ ap (λ l. p.done ++ l) e ∙ append-nil p.done)) p.put
 
-pub then : (whole rest rest' s : List ℕ) (n : ℕ) (xs : List ℕ) → rest ≡ rest' → Partly whole rest s n xs → Partly whole rest' s n xs
-then whole rest rest' s n xs e p = subst (λ r. Partly whole r s n xs) e p
+-- There is room for the piece that comes next.
+pub room_next : {whole rest : List ℕ} (a more : List ℕ) {w x : Writer} → length whole ≤ length (left w) → Partly whole rest w x → rest ≡ a ++ more → length a ≤ length (left x)
+room_next {whole} {rest} a more {w} {x} all p e =
+    let here : length rest ≤ length (left x) = room rest (omega (arith, all, ap length p.split)) p.put in
+    omega (arith, here, ap length e, length-append a more)
 
-pub more : (whole a rest s : List ℕ) (n : ℕ) (xs : List ℕ) → Partly whole (a ++ rest) s n xs → (m : ℕ) (ys : List ℕ) → Put a (take (length xs - n) (drop n xs)) m ys → Partly whole rest s (n + m) (put_mid n (length xs - n) xs ys)
-more whole a rest s n xs p m ys q =
-    let w = p.done in
-    let d : take (length xs - n) (drop n xs) ≡ drop n s = take_rest xs n ∙ ap (drop n) p.bytes ∙ drop_at w (drop n s) n (sym p.count) in
-    let e : ys ≡ a ++ drop (n + m) s = q.1 ∙ ap (λ l. a ++ drop m l) d ∙ ap (λ l. a ++ l) (drop-drop m n s) in
-    let len : length (a ++ rest) ≡ length a + length rest = length-append a rest in
-    record {
-      done = w ++ a;
-      split = p.split ∙ sym (append_assoc w a rest);
-      count = sym (length-append w a ∙ omega (arith, p.count, q.0));
-      bytes = end_lent n w (drop n s) xs ys (sym p.count) p.bytes ∙ ap (λ l. w ++ l) e ∙ sym (append_assoc w a (drop (n + m) s));
-      room = omega (arith, p.room, q.0);
-    }
+-- Lines: those of the first i items are written, and there is room for the next one's.
+pub line_room : {X : Type 0} (f : X → List ℕ) (xs : List X) (i : ℕ) (d : X) {w x : Writer} → length (flat_map f xs) ≤ length (left w) → Put (flat_map f (take i xs)) w x → i < length xs → length (f (get_or xs i d)) ≤ length (left x)
+line_room f xs i d {w} {x} all p inside = omega (arith, length-flat_map-take f xs i d inside, ap length p.rest ∙ length-drop (length (flat_map f (take i xs))) (left w))
 
--- All of the whole is written.
-pub all_put : (whole s : List ℕ) (n : ℕ) (xs : List ℕ) → Partly whole [] s n xs → Put whole s n xs
-all_put whole s n xs p =
-    let e : p.done ≡ whole = sym (p.split ∙ append-nil p.done) in
-    (p.count ∙ ap length e, p.bytes ∙ ap (λ l. l ++ drop n s) e)
+pub line_more : {X : Type 0} (f : X → List ℕ) (xs : List X) (i : ℕ) (d : X) {w x y : Writer} → Put (flat_map f (take i xs)) w x → i < length xs → Put (f (get_or xs i d)) x y → Put (flat_map f (take (i + 1) xs)) w y
+line_more f xs i d {w} {x} {y} p inside q =
+    let e : flat_map f (take (i + 1) xs) ≡ flat_map f (take i xs) ++ f (get_or xs i d) = ap (flat_map f) (take_more xs i d inside) ∙ sym (flat_map_more f [] (take i xs) (get_or xs i d)) in
+    subst (λ l. Put l w y) (sym e) (two p q)
 
--- A first piece, and the last one.
-pub put_two : (a b s : List ℕ) (n : ℕ) (xs : List ℕ) (m : ℕ) (ys : List ℕ) → length a + length b ≤ length s → Put a s n xs → Put b (take (length xs - n) (drop n xs)) m ys → Put (a ++ b) s (n + m) (put_mid n (length xs - n) xs ys)
-put_two a b s n xs m ys room p q =
-    let start : Partly (a ++ b) (b ++ []) s n xs = record { done = a; split = ap (λ l. a ++ l) (sym (append-nil b)); count = p.0; bytes = p.1; room = simp append-nil (omega (arith, p.0)) } in
-    all_put (a ++ b) s (n + m) _ (more (a ++ b) b [] s n xs start m ys q)
+pub lines_all : {X : Type 0} (f : X → List ℕ) (xs ys : List X) (i : ℕ) {w x : Writer} → Put (flat_map f (take i xs)) w x → length xs ≤ i → xs ≡ ys → Put (flat_map f ys) w x
+lines_all f xs ys i {w} {x} p past same = subst (λ l. Put (flat_map f l) w x) (take_all i xs past ∙ same) p
 
-pub same_put : (a b s : List ℕ) (n : ℕ) (xs : List ℕ) → a ≡ b → Put a s n xs → Put b s n xs
-same_put a b s n xs e p = subst (λ l. Put l s n xs) e p
+-- What stands at the front of a buffer, once a writer that began there has written it.
+pub front : {bytes spelled : List ℕ} (w x : Writer) → w.count ≡ 0 → Put bytes w x → bytes ≡ spelled → (after : List ℕ) → after ≡ x.out.now → Wrote spelled w.out.now (Some x.count) after
+front {bytes} {spelled} w x begins p is after lent =
+    let all : written x ≡ spelled = p.added ∙ ap (λ n. take n w.out.now ++ bytes) begins ∙ is in
+    let count : x.count ≡ length spelled = sym (length-take-le x.count x.out.now x.within) ∙ ap length all in
+    let rest : left x ≡ drop x.count w.out.now = p.rest ∙ ap (λ n. drop (length bytes) (drop n w.out.now)) begins ∙ ap (λ n. drop n w.out.now) (ap length is ∙ sym count) in
+    (count, lent ∙ sym (take-append-drop x.count x.out.now) ∙ ap (λ l. l ++ left x) all ∙ ap (λ l. spelled ++ l) rest)

@@ -1,5 +1,5 @@
 -- What the walk writes of an expression's nodes is how the expression is spelled.
-use Rattle.std.proofs.Common.{◌≡◌, ℕ, ◌+◌, ◌<◌, ◌≤◌, List, ◌∷◌, ◌++◌, length, codes, decimal, sym, refl, ap, ◌∙◌, arith, length-append}
+use Rattle.std.proofs.Common.{◌≡◌, ℕ, ◌+◌, ◌<◌, ◌≤◌, List, ◌∷◌, ◌++◌, length, codes, decimal, sym, refl, ap, ◌∙◌, arith}
 use Rattle.std.proofs.lemmas.List.{append_assoc}
 use Rattle.std.proofs.lemmas.Bool.{lt-ltb, eq-eqb, ne_eqb}
 use Rattle.grammar.specs.declared.node.Node.{Node}
@@ -7,10 +7,11 @@ use Rattle.grammar.specs.Expr.{Expr, empty, any, term, call, seq, alt, star, not
 use Rattle.grammar.specs.Spelling.{spell, width}
 use Rattle.grammar.specs.Allowed.{past}
 use Rattle.grammar.specs.Layout.{flat, below, root, operator_of}
+use Rattle.grammar.proofs.Widths.{below_length}
 use Rattle.writing.specs.Walk.{opening, closings, still_open, while_open, walked}
 
 -- The bytes from the node i on, when those that end there are not closed yet.
-abbrev resumed : ℕ → List ℕ → List Node → List ℕ
+abbrev pub resumed : ℕ → List ℕ → List Node → List ℕ
 resumed i st nodes = closings i st ++ while_open (still_open i st) (walked i (still_open i st) nodes)
 
 -- An expression that ends here is closed.
@@ -23,14 +24,7 @@ resumed_on : (end i : ℕ) (st : List ℕ) (nodes : List Node) → i < end → r
 resumed_on end i st nodes h = rw (ne_eqb end i (λ e. omega arith))
 
 size_some : (e : Expr) → 1 ≤ size e
-size_some empty = omega arith
-size_some any = omega arith
-size_some (term n) = omega arith
-size_some (call n) = omega arith
-size_some (seq a b) = omega arith
-size_some (alt a b) = omega arith
-size_some (star a) = omega arith
-size_some (not a) = omega arith
+size_some e = omega (arith, below_length 0 0 e)
 
 -- A node is opened where there is room.
 walked_node : (i at : ℕ) (e : Expr) (st : List ℕ) (nodes : List Node) → length st < 64 → walked i st (root i at e ∷ nodes) ≡ opening (operator_of e) ++ resumed (i + 1) ((i + size e) ∷ st) nodes
@@ -93,23 +87,6 @@ walked_spells (not a) i at st nodes h =
     let p = past at (codes "not") in
     walked_node i at (not a) st (flat (i + 1) p a ++ nodes) (omega arith)
     ∙ ap (λ l. codes " (not" ++ l) (one a i p st nodes (walked_spells a (i + 1) p ((i + (1 + size a)) ∷ st) nodes (omega arith)))
-
--- An expression has as many nodes as its size.
-pub size_flat : (e : Expr) (i at : ℕ) → length (flat i at e) ≡ size e
-size_flat empty i at = refl
-size_flat any i at = refl
-size_flat (term n) i at = refl
-size_flat (call n) i at = refl
-size_flat (seq a b) i at =
-    let p = past at (codes "seq") in
-    let h = size_flat a (i + 1) p in let k = size_flat b (i + 1 + size a) (p + width a + 1) in
-    omega (arith, length-append (flat (i + 1) p a) (flat (i + 1 + size a) (p + width a + 1) b))
-size_flat (alt a b) i at =
-    let p = past at (codes "alt") in
-    let h = size_flat a (i + 1) p in let k = size_flat b (i + 1 + size a) (p + width a + 1) in
-    omega (arith, length-append (flat (i + 1) p a) (flat (i + 1 + size a) (p + width a + 1) b))
-size_flat (star a) i at = let h = size_flat a (i + 1) (past at (codes "star")) in omega arith
-size_flat (not a) i at = let h = size_flat a (i + 1) (past at (codes "not")) in omega arith
 
 -- What follows an expression's bytes stands past them.
 pub spell_append : (e : Expr) (r q : List ℕ) → spell e (r ++ q) ≡ spell e r ++ q

@@ -1,10 +1,13 @@
 -- What a walk over the nodes of a table writes, with a stack of the ends of the expressions that are still open, the innermost first.
-use Rattle.std.specs.Prelude.{ℕ, ◌+◌, Bool, false, cond, List, [], ◌∷◌, ◌++◌, length, drop, codes, decimal, ◌==◌, nat_lt}
+use Rattle.std.specs.Prelude.{ℕ, ◌+◌, Bool, false, cond, List, [], ◌∷◌, ◌++◌, length, drop, map, reverse, codes, decimal, ◌==◌, nat_lt}
+use Rattle.std.specs.List.{flat_map}
 use Rattle.kinds.specs.declared.class.Class.{Class}
-use Rattle.grammar.specs.Spelling.{spell_classes}
+use Rattle.grammar.specs.Spelling.{spell_class}
 use Rattle.grammar.specs.declared.node.Operator.{Operator}
 use Rattle.grammar.specs.declared.node.Operator.TheVariants.{Empty, Any, Term, Call, Seq, Alt, Star, Not}
 use Rattle.grammar.specs.declared.node.Node.{Node}
+use Rattle.grammar.specs.declared.book.Book.{Book}
+use Rattle.grammar.specs.Tables.{laid, listed}
 use Rattle.writing.specs.declared.walk.OpenExpr.{OpenExpr}
 
 -- A space and a number.
@@ -24,8 +27,7 @@ opening Not = codes " (not"
 
 -- The ends of what a stack holds: there the innermost stands last.
 abbrev pub ends : List OpenExpr → List ℕ
-ends [] = []
-ends (x ∷ xs) = ends xs ++ (x.end ∷ [])
+ends xs = reverse (map (λ x. x.end) xs)
 
 -- One more expression is open, if 64 are not already.
 abbrev pub opened : ℕ → List ℕ → List ℕ
@@ -58,15 +60,18 @@ walked i st (node ∷ nodes) =
     let inside = opened node.end st in let open_still = still_open (i + 1) inside in
     opening node.operator ++ (closings (i + 1) inside ++ while_open open_still (walked (i + 1) open_still nodes))
 
+-- The lines of the classes.
+abbrev pub class_lines : List Class → List ℕ
+class_lines classes = flat_map (λ class. spell_class class []) classes
+
 -- The line of the rule whose expression begins at the node `start`.
 abbrev pub rule_line : List Node → ℕ → List ℕ
 rule_line nodes start = codes "(rule" ++ (walked start [] (drop start nodes) ++ codes ")\n")
 
 -- The lines of the rules whose expressions begin at these nodes.
-unfoldable pub rule_lines : List Node → List ℕ → List ℕ
-rule_lines nodes [] = []
-rule_lines nodes (start ∷ starts) = rule_line nodes start ++ rule_lines nodes starts
+abbrev pub rule_lines : List Node → List ℕ → List ℕ
+rule_lines nodes starts = flat_map (rule_line nodes) starts
 
--- The lines of a book with these classes, nodes and roots.
-abbrev pub book_lines : List Class → List Node → List ℕ → List ℕ
-book_lines classes nodes roots = spell_classes classes [] ++ rule_lines nodes roots
+-- The lines of a book, as its tables have them.
+abbrev pub book_lines : Book → List ℕ
+book_lines book = class_lines (listed book.classes) ++ rule_lines (laid book.table) (listed book.roots)

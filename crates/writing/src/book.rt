@@ -4,11 +4,12 @@ ghost use Rattle.grammar.specs.Spelling.{spelling};
 ghost use Rattle.grammar.specs.Held.{Holds};
 ghost use Rattle.writing.specs.Wrote.{Wrote};
 
-use crate::lines::{put_classes, put_rules};
+use crate::writer::Writer;
 use grammar::Book;
 
 /// Writes the book into `out` and answers how many bytes that took; bytes past them stay. Answers
 /// none, and touches nothing, when `out` is too short.
+#[tactic(auto, using(crate::proofs::Held::lines_count))]
 pub fn write_book(book: &Book, out: &mut [u8]) -> Option<usize>
     ensures answer { result ≡ (if nat_le book.now.length (length out.old) then Some book.now.length else None) }
     ensures refused { result ≡ None → out.new ≡ out.old }
@@ -17,6 +18,7 @@ pub fn write_book(book: &Book, out: &mut [u8]) -> Option<usize>
     if out.len() < book.length {
         return None;
     }
-    let count = put_classes(&book.classes, out);
-    Some(count + put_rules(&book.table, &book.roots, &mut out[count..]))
+    let mut writer = Writer { out, count: 0 };
+    writer.put_book(book);
+    Some(writer.count)
 }

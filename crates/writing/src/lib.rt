@@ -3,10 +3,10 @@
 #![tactic(auto)]
 
 mod book;
-mod bytes;
 mod lines;
 #[cfg(test)]
 mod tests;
 mod walk;
+mod writer;
 
 pub use book::write_book;

@@ -1,5 +1,5 @@
 use crate::book::write_book;
-use crate::bytes::put_digits;
+use crate::writer::Writer;
 use grammar::{Book, Classes, Operator, Roots, Table};
 use kinds::Class;
 
@@ -69,11 +69,17 @@ fn no_room_at_all(rt: HostRuntime) {
     assert_eq!(rt; write_book(&sample(), &mut out), None);
 }
 
-// The digits of a number, and then spaces.
+// The digits of a number, past the space that stands before them, and then spaces.
 fn digits(number: u32) -> [u8; 12] {
-    let mut out = [b' '; 12];
-    let _ = put_digits(number, &mut out);
-    out
+    let mut out = [b' '; 13];
+    let mut writer = Writer {
+        out: &mut out,
+        count: 0,
+    };
+    writer.put_number(number);
+    let mut digits = [0; 12];
+    digits.copy_from_slice(&out[1..]);
+    digits
 }
 
 #[test]

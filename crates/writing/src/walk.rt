@@ -1,10 +1,10 @@
-ghost use Rattle.std.specs.Prelude.{◌≡◌, ◌+◌, ◌≤◌, [], ◌++◌, length, drop};
+ghost use Rattle.std.specs.Prelude.{◌≡◌, ◌++◌, [], length, drop};
 ghost use Rattle.grammar.specs.Tables.{laid};
-ghost use Rattle.stack.specs.Held.{held};
-ghost use Rattle.writing.specs.Wrote.{Put};
-ghost use Rattle.writing.specs.Walk.{number_bytes, opening, ends, ends_at, closings, opened, still_open, walked};
+ghost use Rattle.stack.specs.Held.{held, SameLoan};
+ghost use Rattle.writing.specs.Wrote.{Put, Room};
+ghost use Rattle.writing.specs.Walk.{opening, ends, ends_at, closings, opened, still_open, walked};
 
-use crate::bytes::{put, put_number};
+use crate::writer::Writer;
 use grammar::{Node, Operator, Table};
 use stack::Stack;
 
@@ -14,99 +14,76 @@ pub(crate) struct OpenExpr {
     pub end: u16,
 }
 
-// Writes the front of an expression that has a number.
-fn put_numbered(front: &[u8], number: u32, out: &mut [u8]) -> usize
-    requires { length front.now + length (number_bytes number) ≤ length out.old }
-    ensures { Put (front.now ++ number_bytes number) out.old result out.new }
-{
-    let count = put(front, out);
-    count + put_number(number, &mut out[count..])
-}
-
-// Writes the front of an expression: a space, the opening bracket, its word and its number.
-fn put_opening(operator: Operator, out: &mut [u8]) -> usize
-    requires { length (opening operator) ≤ length out.old }
-    ensures { Put (opening operator) out.old result out.new }
-{
-    match operator {
-        Operator::Empty => put(b" (empty", out),
-        Operator::Any => put(b" (any", out),
-        Operator::Term(class) => put_numbered(b" (term", class, out),
-        Operator::Call(rule) => put_numbered(b" (call", rule, out),
-        Operator::Seq => put(b" (seq", out),
-        Operator::Alt => put(b" (alt", out),
-        Operator::Star => put(b" (star", out),
-        Operator::Not => put(b" (not", out),
-    }
-}
-
 // Whether the innermost open expression ends before the node `next`.
-fn ends_at(next: u16, stack: &Stack<'_, OpenExpr>) -> bool
+#[tactic(auto, using(crate::proofs::Ends::top_some, crate::proofs::Ends::top_none))]
+fn ends_at(next: usize, stack: &Stack<'_, OpenExpr>) -> bool
     ensures { result ≡ ends_at next (ends (held stack.now)) }
 {
-    match stack.top() {
-        Some(open) => open.end == next,
-        None => false,
-    }
+    stack
+        .top()
+        .is_some_and(|open| usize::from(open.end) == next)
 }
 
-// Closes the expressions that end before the node `next`.
-fn put_closings(next: u16, stack: &mut Stack<'_, OpenExpr>, out: &mut [u8]) -> usize
-    requires { length (closings next (ends (held stack.old))) ≤ length out.old }
-    ensures bytes { Put (closings next (ends (held stack.old))) out.old result out.new }
-    ensures left { ends (held stack.new) ≡ still_open next (ends (held stack.old)) }
-    ensures size { length stack.new.records.now ≡ length stack.old.records.now }
-    ensures lent { stack.new.records.ghost_name ≡ stack.old.records.ghost_name }
+// The nodes from `first` on.
+fn nodes_from(table: &Table, first: usize) -> &[Node]
+    ensures { result.now ≡ drop first (laid table.now) }
 {
-    let mut count = 0;
-    while ends_at(next, stack) {
-        let _ = stack.pop();
-        count += put(b")", &mut out[count..]);
-    }
-    count
+    table.nodes().get(first..).unwrap_or(&[])
 }
 
-// Opens the expression of a node, and closes those that end before the node `next`, which follows.
-fn put_node(node: Node, next: u16, stack: &mut Stack<'_, OpenExpr>, out: &mut [u8]) -> usize
-    requires size { length stack.old.records.now ≡ 64 }
-    requires room { length (opening node.operator) + length (closings next (opened node.end (ends (held stack.old)))) ≤ length out.old }
-    ensures bytes { Put (opening node.operator ++ closings next (opened node.end (ends (held stack.old)))) out.old result out.new }
-    ensures left { ends (held stack.new) ≡ still_open next (opened node.end (ends (held stack.old))) }
-    ensures size { length stack.new.records.now ≡ 64 }
-    ensures lent { stack.new.records.ghost_name ≡ stack.old.records.ghost_name }
-{
-    let count = put_opening(node.operator, out);
-    let _ = stack.push(OpenExpr { end: node.end });
-    count + put_closings(next, stack, &mut out[count..])
-}
-
-// Writes the nodes from `start` on, until nothing is open any more.
-fn put_nodes(table: &Table, start: u16, stack: &mut Stack<'_, OpenExpr>, out: &mut [u8]) -> usize
-    requires size { length stack.old.records.now ≡ 64 }
-    requires room { length (walked start (ends (held stack.old)) (drop start (laid table.now))) ≤ length out.old }
-    ensures { Put (walked start (ends (held stack.old)) (drop start (laid table.now))) out.old result out.new }
-{
-    let mut count = 0;
-    let mut next = start;
-    while next < table.count() {
-        count += put_node(table.node(next), next + 1, stack, &mut out[count..]);
-        next += 1;
-        if stack.is_empty() {
-            return count;
+impl Writer<'_> {
+    // Writes the front of an expression: a space, the opening bracket, its word and its number.
+    fn put_opening(&mut self, operator: Operator)
+        requires { Room (opening operator) self.old }
+        ensures { Put (opening operator) self.old self.new }
+    {
+        match operator {
+            Operator::Empty => self.put(b" (empty"),
+            Operator::Any => self.put(b" (any"),
+            Operator::Term(class) => {
+                self.put(b" (term");
+                self.put_number(class);
+            }
+            Operator::Call(rule) => {
+                self.put(b" (call");
+                self.put_number(rule);
+            }
+            Operator::Seq => self.put(b" (seq"),
+            Operator::Alt => self.put(b" (alt"),
+            Operator::Star => self.put(b" (star"),
+            Operator::Not => self.put(b" (not"),
         }
     }
-    count
-}
 
-/// Writes a space and the expression whose node is `start`.
-pub(crate) fn put_expr(table: &Table, start: u16, out: &mut [u8]) -> usize
-    requires { length (walked start [] (drop start (laid table.now))) ≤ length out.old }
-    ensures { Put (walked start [] (drop start (laid table.now))) out.old result out.new }
-{
-    let mut records = [OpenExpr { end: 0 }; 64];
-    let mut stack = Stack {
-        records: &mut records,
-        depth: 0,
-    };
-    put_nodes(table, start, &mut stack, out)
+    // Closes the expressions that end before the node `next`.
+    fn put_closings(&mut self, next: usize, stack: &mut Stack<'_, OpenExpr>)
+        requires { Room (closings next (ends (held stack.old))) self.old }
+        ensures bytes { Put (closings next (ends (held stack.old))) self.old self.new }
+        ensures left { ends (held stack.new) ≡ still_open next (ends (held stack.old)) }
+        ensures same { SameLoan stack.old stack.new }
+    {
+        while ends_at(next, stack) {
+            let _ = stack.pop();
+            self.put(b")");
+        }
+    }
+
+    /// Writes a space and the expression whose node is `start`.
+    pub(crate) fn put_expr(&mut self, table: &Table, start: u16)
+        requires { Room (walked start [] (drop start (laid table.now))) self.old }
+        ensures { Put (walked start [] (drop start (laid table.now))) self.old self.new }
+    {
+        let mut records = [OpenExpr { end: 0 }; 64];
+        let mut stack = Stack::new(&mut records);
+        let first = usize::from(start);
+        let nodes = nodes_from(table, first);
+        for (i, node) in nodes.iter().enumerate() {
+            self.put_opening(node.operator);
+            let _ = stack.push(OpenExpr { end: node.end });
+            self.put_closings(first + i + 1, &mut stack);
+            if stack.is_empty() {
+                return;
+            }
+        }
+    }
 }
