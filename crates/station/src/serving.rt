@@ -17,14 +17,17 @@ pub fn serve<K: Kind + Drop>(kind: K, requests: &[Request], answers: &mut [Answe
     ensures law { Law K.Symbol }
 {
     let mut station = Station::new(kind);
-    let count = requests.len().min(answers.len());
-    for i in 0..count {
-        answers[i] = ask(&mut station, requests[i]);
+    for (i, answer) in answers.iter_mut().enumerate() {
+        let Some(request) = requests.get(i) else {
+            return i;
+        };
+        *answer = ask(&mut station, *request);
     }
-    count
+    answers.len()
 }
 
 // One request.
+
 fn ask<K: Kind>(station: &mut Station<K>, request: Request) -> Answer
     ensures { Keeps {S = K.Symbol} station.old (call_of request) (reply_of result) station.new }
 {
