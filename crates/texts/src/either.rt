@@ -1,7 +1,7 @@
 ghost use Rattle.std.specs.Prelude.{◌≡◌, length};
 ghost use Rattle.std.specs.List.{slice_get};
 ghost use Rattle.texts.specs.Lists.{either};
-ghost use Rattle.texts.specs.Short.{either_short};
+ghost use Rattle.std.proofs.Common.{rules};
 
 use crate::text::Text;
 
@@ -19,7 +19,7 @@ impl<A: Text, B: Text<Symbol = A::Symbol>> Text for Either<A, B> {
 
     ghost cut = { λ e. either A.Text.cut B.Text.cut e };
 
-    ghost short = { λ e. either_short A.Text.list B.Text.list A.Text.short B.Text.short e };
+    ghost short = { Prim.search rules };
 
     fn len(&self) -> usize
         ensures { result ≡ length (either A.Text.list B.Text.list self.now) }

@@ -1,4 +1,4 @@
-ghost use Rattle.std.specs.Prelude.{◌≡◌, ◌<◌, length, take};
+ghost use Rattle.std.specs.Prelude.{◌≡◌, ◌<◌, ◌≤◌, length, take};
 ghost use Rattle.std.specs.List.{slice_get};
 ghost use Rattle.texts.specs.Lists.{half_digit, packed_list, packed_cut};
 ghost use Rattle.texts.specs.Short.{packed_short};
@@ -13,7 +13,9 @@ pub const MOST_BYTES: usize = 32_767;
 pub struct Packed<'a> {
     // what was taken when the text was made: its length is fixed from then on
     bytes: &'a [u8],
+    // there were more bytes than were taken
     cut: bool,
+    ghost within: { length bytes.now ≤ 32767 },
 }
 
 impl<'a> Packed<'a> {
@@ -25,7 +27,7 @@ impl<'a> Packed<'a> {
     {
         let taken = bytes.len().min(MOST_BYTES);
         Packed {
-            bytes: &bytes[0..taken],
+            bytes: &bytes[..taken],
             cut: bytes.len() > MOST_BYTES,
         }
     }
@@ -36,7 +38,7 @@ fn digit(half: u8) -> u8
     requires { half < 16 }
     ensures { result ≡ half_digit half }
 {
-    if half <= 9 { 48 + half } else { 55 + half }
+    b"0123456789ABCDEF"[usize::from(half)]
 }
 
 impl<'a> Text for Packed<'a> {
@@ -51,21 +53,15 @@ impl<'a> Text for Packed<'a> {
     fn len(&self) -> usize
         ensures { result ≡ length (packed_list self.now.bytes.now) }
     {
-        2 * self.bytes.len().min(MOST_BYTES)
+        2 * self.bytes.len()
     }
 
     fn symbol(&self, place: usize) -> Option<u8>
         ensures { result ≡ slice_get (packed_list self.now.bytes.now) place }
     {
-        if place >= self.len() {
-            return None;
-        }
-        let byte = self.bytes[place / 2];
-        if place % 2 == 0 {
-            Some(digit(byte / 16))
-        } else {
-            Some(digit(byte % 16))
-        }
+        let byte = self.bytes.get(place / 2)?;
+        let half = if place % 2 == 0 { byte / 16 } else { byte % 16 };
+        Some(digit(half))
     }
 
     fn is_cut(&self) -> bool

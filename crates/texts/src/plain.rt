@@ -1,7 +1,7 @@
 ghost use Rattle.std.specs.Prelude.{◌≡◌, length};
 ghost use Rattle.std.specs.List.{slice_get};
 ghost use Rattle.texts.specs.Lists.{plain_list, plain_cut};
-ghost use Rattle.texts.specs.Short.{plain_short};
+ghost use Rattle.std.proofs.Common.{arith, length-take};
 
 use crate::text::{MOST_SYMBOLS, Text};
 
@@ -27,7 +27,7 @@ impl<'a, S: Copy> Text for Plain<'a, S> {
 
     ghost cut = { λ t. plain_cut t.symbols.now };
 
-    ghost short = { λ t. plain_short t.symbols.now };
+    ghost short = { λ t. Prim.simp length-take (Prim.omega arith) };
 
     fn len(&self) -> usize
         ensures { result ≡ length (plain_list self.now.symbols.now) }
@@ -38,11 +38,7 @@ impl<'a, S: Copy> Text for Plain<'a, S> {
     fn symbol(&self, place: usize) -> Option<S>
         ensures { result ≡ slice_get (plain_list self.now.symbols.now) place }
     {
-        if place < self.symbols.len() && place < MOST_SYMBOLS {
-            Some(self.symbols[place])
-        } else {
-            None
-        }
+        self.symbols[..self.len()].get(place).copied()
     }
 
     fn is_cut(&self) -> bool
