@@ -6,6 +6,7 @@ ghost use Rattle.std.proofs.Common.{rules};
 use crate::text::Text;
 
 /// One of two texts over the same symbols, so that one list can mix texts of any sort.
+// The library's `Either` has other names for its two cases, and these are exported.
 #[derive(Clone, Copy)]
 pub enum Either<A, B> {
     First(A),

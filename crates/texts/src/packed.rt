@@ -13,7 +13,7 @@ pub const MOST_BYTES: usize = 32_767;
 pub struct Packed<'a> {
     // what was taken when the text was made: its length is fixed from then on
     bytes: &'a [u8],
-    // there were more bytes than were taken
+    // whether there were more: `new` promises this field too, and the rest is not kept to count again
     cut: bool,
     ghost within: { length bytes.now ≤ 32767 },
 }
