@@ -17,6 +17,7 @@ pub fn serve<K: Kind + Drop>(kind: K, requests: &[Request], answers: &mut [Answe
     ensures law { Law K.Symbol }
 {
     let mut station = Station::new(kind);
+    // not `zip`: after an adapter of `iter_mut` a proof knows nothing of the answers
     for (i, answer) in answers.iter_mut().enumerate() {
         let Some(request) = requests.get(i) else {
             return i;
@@ -27,7 +28,6 @@ pub fn serve<K: Kind + Drop>(kind: K, requests: &[Request], answers: &mut [Answe
 }
 
 // One request.
-
 fn ask<K: Kind>(station: &mut Station<K>, request: Request) -> Answer
     ensures { Keeps {S = K.Symbol} station.old (call_of request) (reply_of result) station.new }
 {

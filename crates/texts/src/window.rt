@@ -33,6 +33,7 @@ impl<T: Text> Text for Window<T> {
     fn symbol(&self, place: usize) -> Option<T::Symbol>
         ensures { result ≡ slice_get (window_list self.now.skip self.now.size (T.Text.list self.now.below)) place }
     {
+        // this test comes first, so that the sum cannot wrap; `then` with `flatten` is no plainer
         if place < usize::from(self.size) {
             self.below.symbol(usize::from(self.skip) + place)
         } else {
