@@ -1,8 +1,8 @@
 -- What stands at a place of a list that was taken, joined or unpacked from another.
-use Rattle.std.proofs.Common.{Bor, Option, ◌≡◌, ℕ, zero, suc, ◌+◌, ◌-◌, ◌*◌, ◌/◌, ◌%◌, ◌<◌, ◌≤◌, List, [], ◌∷◌, ◌++◌, min, length, get_or, take, Some, None, refl, ap, ◌∙◌, sym, arith, length-take, take_all}
+use Rattle.std.proofs.Common.{Bor, Option, ◌≡◌, ℕ, zero, suc, ◌-◌, ◌*◌, ◌/◌, ◌%◌, ◌<◌, ◌≤◌, List, [], ◌∷◌, ◌++◌, min, length, take, Some, None, cond, nat_eq, refl, ap, ◌∙◌, sym, arith, length-take, take_all}
 use Rattle.std.specs.List.{slice_get}
 use Rattle.std.specs.Slice.{IsItemAt}
-use Rattle.std.specs.Option.{option_copied}
+use Rattle.std.specs.Option.{option_copied, option_map}
 use Rattle.std.proofs.lemmas.Grind.{common_steps}
 use Rattle.std.proofs.lemmas.Option.{gets, slice_get_cases, slice_get_past}
 use Rattle.std.proofs.lemmas.List.{take_min, take-take}
@@ -32,19 +32,14 @@ length_digits : (bytes : List ℕ) → length (digits bytes) ≡ 2 * length byte
 length_digits [] = refl
 length_digits (b ∷ bytes) = omega (arith, length_digits bytes)
 
-high_digit : (bytes : List ℕ) (k i : ℕ) → i ≡ 2 * k → k < length bytes → slice_get (digits bytes) i ≡ Some (half_digit (get_or bytes k 0 / 16))
-high_digit [] k i e h = absurd (omega arith)
-high_digit (b ∷ bytes) zero i e h = rw e refl
-high_digit (b ∷ bytes) (suc k) zero e h = absurd (omega arith)
-high_digit (b ∷ bytes) (suc k) (suc zero) e h = absurd (omega arith)
-high_digit (b ∷ bytes) (suc k) (suc (suc i)) e h = high_digit bytes k i (omega arith) (omega arith)
-
-low_digit : (bytes : List ℕ) (k i : ℕ) → i ≡ 2 * k + 1 → k < length bytes → slice_get (digits bytes) i ≡ Some (half_digit (get_or bytes k 0 % 16))
-low_digit [] k i e h = absurd (omega arith)
-low_digit (b ∷ bytes) zero i e h = rw e refl
-low_digit (b ∷ bytes) (suc k) zero e h = absurd (omega arith)
-low_digit (b ∷ bytes) (suc k) (suc zero) e h = absurd (omega arith)
-low_digit (b ∷ bytes) (suc k) (suc (suc i)) e h = low_digit bytes k i (omega arith) (omega arith)
+digit_at : (bytes : List ℕ) (i : ℕ) → slice_get (digits bytes) i ≡ option_map (λ b. half_digit (cond (nat_eq (i % 2) 0) (b / 16) (b % 16))) (slice_get bytes (i / 2))
+digit_at [] i = refl
+digit_at (b ∷ bytes) zero = refl
+digit_at (b ∷ bytes) (suc zero) = refl
+digit_at (b ∷ bytes) (suc (suc i)) =
+    let half : suc (suc i) / 2 ≡ suc (i / 2) = omega arith in
+    let rest : suc (suc i) % 2 ≡ i % 2 = omega arith in
+    rw (half, rest) (digit_at bytes i)
 
 -- A packed text holds no more bytes than it takes, so that its symbols are the digits of all of them.
 whole : (bytes : List ℕ) → length bytes ≤ 32767 → digits bytes ≡ packed_list bytes
@@ -53,17 +48,20 @@ whole bytes short = ap digits (sym (take_all 32767 bytes short))
 pub length_packed : (bytes : List ℕ) → length bytes ≤ 32767 → 2 * length bytes ≡ length (packed_list bytes)
 length_packed bytes short = sym (length_digits bytes) ∙ ap length (whole bytes short)
 
+packed_at : (bytes : List ℕ) (i : ℕ) → length bytes ≤ 32767 →
+    slice_get (packed_list bytes) i ≡ option_map (λ b. half_digit (cond (nat_eq (i % 2) 0) (b / 16) (b % 16))) (slice_get bytes (i / 2))
+packed_at bytes i short = rw (← whole bytes short) (digit_at bytes i)
+
 pub packed_past : (bytes : List ℕ) (i : ℕ) → length bytes ≤ 32767 → length bytes ≤ i / 2 → None ≡ slice_get (packed_list bytes) i
-packed_past bytes i short h =
-    sym (slice_get_past (digits bytes) i (omega (arith, length_digits bytes))) ∙ ap (λ xs. slice_get xs i) (whole bytes short)
+packed_past bytes i short h = rw (packed_at bytes i short, slice_get_past bytes (i / 2) h) refl
 
-pub packed_high : (bytes : List ℕ) (i : ℕ) → length bytes ≤ 32767 → i % 2 ≡ 0 → i / 2 < length bytes →
-    Some (half_digit (get_or bytes (i / 2) 0 / 16)) ≡ slice_get (packed_list bytes) i
-packed_high bytes i short even h = sym (high_digit bytes (i / 2) i (omega arith) h) ∙ ap (λ xs. slice_get xs i) (whole bytes short)
+pub packed_high : (bytes : List ℕ) (i b : ℕ) → length bytes ≤ 32767 → i % 2 ≡ 0 → slice_get bytes (i / 2) ≡ Some b →
+    Some (half_digit (b / 16)) ≡ slice_get (packed_list bytes) i
+packed_high bytes i b short even at = rw (packed_at bytes i short, at, even) refl
 
-pub packed_low : (bytes : List ℕ) (i : ℕ) → length bytes ≤ 32767 → (i % 2 ≡ 0 → ⊥) → i / 2 < length bytes →
-    Some (half_digit (get_or bytes (i / 2) 0 % 16)) ≡ slice_get (packed_list bytes) i
-packed_low bytes i short odd h = sym (low_digit bytes (i / 2) i (omega arith) h) ∙ ap (λ xs. slice_get xs i) (whole bytes short)
+pub packed_low : (bytes : List ℕ) (i b : ℕ) → length bytes ≤ 32767 → (i % 2 ≡ 0 → ⊥) → slice_get bytes (i / 2) ≡ Some b →
+    Some (half_digit (b % 16)) ≡ slice_get (packed_list bytes) i
+packed_low bytes i b short odd at = let one : i % 2 ≡ 1 = omega arith in rw (packed_at bytes i short, at, one) refl
 
 -- What is taken of bytes is their front, and packs to the same list.
 module _ (k : ℕ) (bytes : List ℕ) (e : k ≡ min (length bytes) 32767) where
