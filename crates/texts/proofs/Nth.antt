@@ -1,5 +1,5 @@
 -- What stands at a place of a list that was taken, joined or unpacked from another.
-use Rattle.std.proofs.Common.{Bor, Option, ◌≡◌, ℕ, zero, suc, ◌-◌, ◌*◌, ◌/◌, ◌%◌, ◌<◌, ◌≤◌, List, [], ◌∷◌, ◌++◌, min, length, take, Some, None, cond, nat_eq, refl, ap, ◌∙◌, sym, arith, length-take, take_all}
+use Rattle.std.proofs.Common.{Bor, Option, ◌≡◌, ℕ, zero, suc, ◌-◌, ◌*◌, ◌/◌, ◌%◌, ◌<◌, ◌≤◌, List, [], ◌∷◌, ◌++◌, min, length, take, Some, None, cond, nat_eq, refl, ap, ◌∙◌, sym, arith, length-take, length-append, ◌+◌, take_all}
 use Rattle.std.specs.List.{slice_get}
 use Rattle.std.specs.Slice.{IsItemAt}
 use Rattle.std.specs.Option.{option_copied, option_map}
@@ -70,3 +70,10 @@ module _ (k : ℕ) (bytes : List ℕ) (e : k ≡ min (length bytes) 32767) where
 
   pub taken_packed : packed_list (take k bytes) ≡ packed_list bytes
   taken_packed = ap packed_list taken ∙ ap digits (take-take 32767 32767 bytes (omega arith))
+
+-- How long a plain text and a join are.
+pub length_plain : {X : Type 0} (xs : List X) → length (take 65535 xs) ≡ min (length xs) 65535
+length_plain xs = simp length-take (omega arith)
+
+pub length_join : {X : Type 0} (xs ys : List X) → length (take 65535 (xs ++ ys)) ≡ min (length xs + length ys) 65535
+length_join xs ys = simp (length-take, length-append) (omega arith)

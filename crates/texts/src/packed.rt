@@ -20,6 +20,7 @@ pub struct Packed<'a> {
 
 impl<'a> Packed<'a> {
     /// The text of these bytes.
+    #[tactic(auto, using(crate::proofs::Nth::taken, crate::proofs::Nth::taken_packed))]
     pub fn new(bytes: &'a [u8]) -> Packed<'a>
         ensures taken { result.bytes.now ≡ take 32767 bytes.now }
         ensures list { packed_list result.bytes.now ≡ packed_list bytes.now }
@@ -50,6 +51,7 @@ impl<'a> Text for Packed<'a> {
 
     ghost short = { λ t. packed_short t.bytes.now };
 
+    #[tactic(auto, using(crate::proofs::Nth::length_packed))]
     fn len(&self) -> usize
         ensures { result ≡ length (packed_list self.now.bytes.now) }
     {

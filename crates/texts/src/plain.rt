@@ -29,6 +29,7 @@ impl<'a, S: Copy> Text for Plain<'a, S> {
 
     ghost short = { λ t. Prim.simp length-take (Prim.omega arith) };
 
+    #[tactic(auto, using(crate::proofs::Nth::length_plain))]
     fn len(&self) -> usize
         ensures { result ≡ length (plain_list self.now.symbols.now) }
     {
