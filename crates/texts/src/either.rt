@@ -2,6 +2,7 @@ ghost use Rattle.std.specs.Prelude.{◌≡◌, length};
 ghost use Rattle.std.specs.List.{slice_get};
 ghost use Rattle.texts.specs.Lists.{either};
 ghost use Rattle.std.proofs.Common.{rules};
+ghost use Rattle.texts.specs.Short.{either_short};
 
 use crate::text::Text;
 
@@ -20,7 +21,7 @@ impl<A: Text, B: Text<Symbol = A::Symbol>> Text for Either<A, B> {
 
     ghost cut = { λ e. either A.Text.cut B.Text.cut e };
 
-    ghost short = { Prim.search rules };
+    ghost short = { Prim.search (rules, either_short) };
 
     fn len(&self) -> usize
         ensures { result ≡ length (either A.Text.list B.Text.list self.now) }

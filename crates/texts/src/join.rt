@@ -1,7 +1,7 @@
 ghost use Rattle.std.specs.Prelude.{◌≡◌, length};
 ghost use Rattle.std.specs.List.{slice_get};
 ghost use Rattle.texts.specs.Lists.{join_list, join_cut};
-ghost use Rattle.std.proofs.Common.{arith, length-take};
+ghost use Rattle.texts.specs.Short.{join_short};
 
 use crate::text::{MOST_SYMBOLS, Text};
 
@@ -19,7 +19,7 @@ impl<A: Text, B: Text<Symbol = A::Symbol>> Text for Join<A, B> {
 
     ghost cut = { λ j. join_cut (A.Text.cut j.front) (B.Text.cut j.back) (A.Text.list j.front) (B.Text.list j.back) };
 
-    ghost short = { λ t. Prim.simp length-take (Prim.omega arith) };
+    ghost short = { λ j. join_short (A.Text.list j.front) (B.Text.list j.back) };
 
     #[tactic(auto, using(crate::proofs::Nth::length_join))]
     fn len(&self) -> usize

@@ -1,7 +1,7 @@
 ghost use Rattle.std.specs.Prelude.{◌≡◌, length};
 ghost use Rattle.std.specs.List.{slice_get};
 ghost use Rattle.texts.specs.Lists.{plain_list, plain_cut};
-ghost use Rattle.std.proofs.Common.{arith, length-take};
+ghost use Rattle.texts.specs.Short.{plain_short};
 
 use crate::text::{MOST_SYMBOLS, Text};
 
@@ -27,7 +27,7 @@ impl<'a, S: Copy> Text for Plain<'a, S> {
 
     ghost cut = { λ t. plain_cut t.symbols.now };
 
-    ghost short = { λ t. Prim.simp length-take (Prim.omega arith) };
+    ghost short = { λ t. plain_short t.symbols.now };
 
     #[tactic(auto, using(crate::proofs::Nth::length_plain))]
     fn len(&self) -> usize

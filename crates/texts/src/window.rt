@@ -2,7 +2,7 @@ ghost use Rattle.std.specs.Prelude.{◌≡◌, length};
 ghost use Rattle.std.specs.List.{slice_get};
 ghost use Rattle.texts.specs.Lists.{window_list};
 ghost use Rattle.std.proofs.Common.{rules};
-ghost use Rattle.std.proofs.lemmas.Grind.{common_steps};
+ghost use Rattle.texts.specs.Short.{window_short};
 
 use crate::text::Text;
 
@@ -21,7 +21,7 @@ impl<T: Text> Text for Window<T> {
 
     ghost cut = { λ w. T.Text.cut w.below };
 
-    ghost short = { Prim.search (rules, common_steps) };
+    ghost short = { Prim.search (rules, window_short) };
 
     fn len(&self) -> usize
         ensures { result ≡ length (window_list self.now.skip self.now.size (T.Text.list self.now.below)) }
