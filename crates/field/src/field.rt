@@ -16,13 +16,10 @@ impl Field {
     pub fn parse(skip: &str, size: &str) -> Option<Field>
         ensures { MatchOption result ((m n : ℕ) → Number skip.now m → Number size.now n → ⊥) (λ f. Number skip.now f.skip × Number size.now f.size) }
     {
-        let Ok(skip) = skip.parse::<u16>() else {
-            return None;
-        };
-        let Ok(size) = size.parse::<u16>() else {
-            return None;
-        };
-        Some(Field { skip, size })
+        Some(Field {
+            skip: skip.parse().ok()?,
+            size: size.parse().ok()?,
+        })
     }
 }
 
@@ -31,6 +28,6 @@ pub fn symbols_of<T: Text<Symbol = u8>>(heap: Global, text: &T) -> Result<Vec<u8
     ensures { IfOk result (λ v. v.items ≡ T.Text.list text.now) }
 {
     let mut symbols = vec![in heap; 0; text.len()]?;
-    copy_symbols(text, symbols.as_mut_slice());
+    copy_symbols(text, &mut symbols);
     Ok(symbols)
 }

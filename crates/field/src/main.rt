@@ -36,17 +36,16 @@ fn run(rt: &HostRuntime) -> anyhow::Result<()> {
     let field = asked_field(rt)?;
     let mut bytes = Vec::new(rt.alloc());
     rt.stdin().take(MOST_INPUT).read_to_end(&mut bytes)?;
-    show_field(rt, bytes.as_slice(), field)?;
+    show_field(rt, &bytes, field)?;
     show_bill(rt)
 }
 
 fn asked_field(rt: &HostRuntime) -> anyhow::Result<Field> {
-    let mut words = env::args(rt)?;
-    let _program = words.next();
+    let mut words = env::args(rt)?.skip(1);
     let (Some(skip), Some(size), None) = (words.next(), words.next(), words.next()) else {
         bail!(EXPECTED);
     };
-    Field::parse(skip.as_str(), size.as_str()).context(EXPECTED)
+    Field::parse(&skip, &size).context(EXPECTED)
 }
 
 fn show_field(rt: &HostRuntime, bytes: &[u8], field: Field) -> anyhow::Result<()> {
@@ -60,7 +59,7 @@ fn show_field(rt: &HostRuntime, bytes: &[u8], field: Field) -> anyhow::Result<()
         size: field.size,
     };
     let symbols = symbols_of(rt.alloc(), &window)?;
-    println!(rt; "field: {}", std::str::from_utf8(symbols.as_slice())?)?;
+    println!(rt; "field: {}", str::from_utf8(&symbols)?)?;
     Ok(())
 }
 
@@ -70,16 +69,8 @@ fn show_bill(rt: &HostRuntime) -> anyhow::Result<()> {
     let mut answers = [Answer::Total(0); 3];
     let served = serve(ByteKind, &requests, &mut answers);
     println!(rt; "calls: {served}")?;
-    for (request, answer) in requests.iter().zip(answers.iter()) {
-        let Answer::Total(steps) = answer;
-        println!(rt; "{}: {steps}", name(*request))?;
+    for (request, Answer::Total(steps)) in requests.iter().zip(&answers) {
+        println!(rt; "{request}: {steps}")?;
     }
     Ok(())
-}
-
-fn name(request: Request) -> &'static str {
-    match request {
-        Request::Bill => "bill",
-        Request::Settle => "settle",
-    }
 }

@@ -6,7 +6,7 @@ use crate::class::Class;
 use crate::kind::Kind;
 
 /// Bytes; a class is a range of them, its two ends included.
-#[derive(Clone, Copy)]
+#[derive(Clone, Copy, PartialEq, Eq, Debug)]
 pub struct ByteKind;
 
 // The greatest byte that a range may end with.
@@ -30,7 +30,6 @@ impl Kind for ByteKind {
     fn contains(&self, class: Class, symbol: u8) -> bool
         ensures { result ≡ byte_contains class symbol }
     {
-        let symbol = u32::from(symbol);
-        self.is_lawful(class) && class.first <= symbol && symbol <= class.second
+        self.is_lawful(class) && (class.first..=class.second).contains(&u32::from(symbol))
     }
 }

@@ -16,10 +16,8 @@ impl Header {
     pub fn new(cla: u8, ins: u8, p1: u8, p2: u8) -> Header
         ensures { result.number ≡ header_number cla ins p1 p2 }
     {
-        let upper = u32::from(cla) * 256 + u32::from(ins);
-        let lower = u32::from(p1) * 256 + u32::from(p2);
         Header {
-            number: upper * 65_536 + lower,
+            number: u32::from_be_bytes([cla, ins, p1, p2]),
         }
     }
 
@@ -32,7 +30,7 @@ impl Header {
 }
 
 /// Command headers; a class is a mask (first) and a value (second) that has no bit outside the mask.
-#[derive(Clone, Copy)]
+#[derive(Clone, Copy, PartialEq, Eq, Debug)]
 pub struct CommandKind;
 
 impl Kind for CommandKind {

@@ -40,8 +40,8 @@ module _ {S : Type 0} where
 
   replies_decided : {log other : Log S} → Lawful log → Lawful other → asked log ≡ asked other → log ≡ other
   replies_decided none none e = refl
-  replies_decided none (more l d) e = let n : ◌≡◌ {A = ℕ} 0 1 = cc in absurd (omega arith)
-  replies_decided (more l d) none e = let n : ◌≡◌ {A = ℕ} 0 1 = cc in absurd (omega arith)
+  replies_decided none (more l d) e = cc
+  replies_decided (more l d) none e = cc
   replies_decided (more {call = c} {reply = r} {log = log} l d) (more {call = k} {reply = q} {log = other} m b) e =
       let calls : c ≡ k = cc in
       let parts : asked log ≡ asked other = cc in

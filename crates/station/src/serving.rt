@@ -17,11 +17,14 @@ pub fn serve<K: Kind + Drop>(kind: K, requests: &[Request], answers: &mut [Answe
     ensures law { Law K.Symbol }
 {
     let mut station = Station::new(kind);
-    let count = requests.len().min(answers.len());
-    for i in 0..count {
-        answers[i] = ask(&mut station, requests[i]);
+    // not `zip`: after an adapter of `iter_mut` a proof knows nothing of the answers
+    for (i, answer) in answers.iter_mut().enumerate() {
+        let Some(request) = requests.get(i) else {
+            return i;
+        };
+        *answer = ask(&mut station, *request);
     }
-    count
+    answers.len()
 }
 
 // One request.

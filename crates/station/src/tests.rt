@@ -2,6 +2,7 @@ use crate::request::{Answer, Request};
 use crate::serving::serve;
 use crate::state::Station;
 use kinds::{ByteKind, CommandKind};
+use std::alloc::AllocError;
 
 #[test]
 fn a_new_station_owes_nothing(rt: HostRuntime) {
@@ -27,4 +28,11 @@ fn serve_leaves_later_answers(rt: HostRuntime) {
         answers,
         [Answer::Total(0), Answer::Total(9), Answer::Total(9)]
     );
+}
+
+#[test]
+fn requests_print_their_names(rt: HostRuntime) -> Result<(), AllocError> {
+    let printed = format!(in rt.alloc(); "{}, {}", Request::Bill, Request::Settle)?;
+    assert_eq!(rt; printed.as_str(), "bill, settle");
+    Ok(())
 }

@@ -1,110 +1,79 @@
--- What stands at a place of a list that was taken, dropped, joined or unpacked from another.
-use Rattle.std.proofs.Common.{◌≡◌, ℕ, zero, suc, ◌+◌, ◌*◌, ◌/◌, ◌%◌, ◌<◌, ◌≤◌, min, List, [], ◌∷◌, ◌++◌, length, get_or, take, drop, set, Some, None, sym, refl, ap, ◌∙◌, suc-add, zero-add, add-one, arith, length-take, take_all, get_or-take}
+-- What stands at a place of a list that was taken, joined or unpacked from another.
+use Rattle.std.proofs.Common.{Bor, Option, ◌≡◌, ℕ, zero, suc, ◌-◌, ◌*◌, ◌/◌, ◌%◌, ◌<◌, ◌≤◌, List, [], ◌∷◌, ◌++◌, min, length, take, Some, None, cond, nat_eq, refl, ap, ◌∙◌, sym, arith, length-take, length-append, ◌+◌, take_all}
 use Rattle.std.specs.List.{slice_get}
+use Rattle.std.specs.Slice.{IsItemAt}
+use Rattle.std.specs.Option.{option_copied, option_map}
+use Rattle.std.proofs.lemmas.Grind.{common_steps}
+use Rattle.std.proofs.lemmas.Option.{gets, slice_get_cases, slice_get_past}
+use Rattle.std.proofs.lemmas.List.{take_min, take-take}
 use Rattle.texts.specs.Lists.{half_digit, digits, packed_list}
 
-pub nth_take : {X : Type 0} (n : ℕ) (xs : List X) (i : ℕ) → i < n → slice_get (take n xs) i ≡ slice_get xs i
-nth_take zero xs i h = absurd (omega arith)
-nth_take (suc n) [] i h = refl
-nth_take (suc n) (x ∷ xs) zero h = refl
-nth_take (suc n) (x ∷ xs) (suc i) h = nth_take n xs i (omega arith)
+pub nth_past : {X : Type 0} (n : ℕ) (xs : List X) (i : ℕ) → n ≤ i → None ≡ slice_get (take n xs) i
+nth_past n xs i h = grind (arith, common_steps, gets)
 
-pub nth_take_past : {X : Type 0} (n : ℕ) (xs : List X) (i : ℕ) → n ≤ i → slice_get (take n xs) i ≡ None
-nth_take_past zero xs i h = refl
-nth_take_past (suc n) [] i h = refl
-nth_take_past (suc n) (x ∷ xs) zero h = absurd (omega arith)
-nth_take_past (suc n) (x ∷ xs) (suc i) h = nth_take_past n xs i (omega arith)
+pub nth_front : {X : Type 0} (n : ℕ) (xs ys : List X) (i : ℕ) → i < n → i < length xs → slice_get xs i ≡ slice_get (take n (xs ++ ys)) i
+nth_front n xs ys i h k = grind (arith, common_steps, gets, slice_get_cases xs i, slice_get_cases (take n (xs ++ ys)) i)
 
-pub nth_taken : {X : Type 0} (n : ℕ) (xs : List X) (i : ℕ) (d v : X) → i < length (take n xs) → v ≡ get_or xs i d → Some v ≡ slice_get (take n xs) i
-nth_taken zero xs i d v h e = absurd (omega arith)
-nth_taken (suc n) [] i d v h e = absurd (omega arith)
-nth_taken (suc n) (x ∷ xs) zero d v h e = ap Some e
-nth_taken (suc n) (x ∷ xs) (suc i) d v h e = nth_taken n xs i d v (omega arith) e
+pub nth_back : {X : Type 0} (n : ℕ) (xs ys : List X) (i : ℕ) → i < n → length xs ≤ i → slice_get ys (i - length xs) ≡ slice_get (take n (xs ++ ys)) i
+nth_back n xs ys i h k = grind (arith, common_steps, gets, slice_get_cases ys (i - length xs), slice_get_cases (take n (xs ++ ys)) i)
 
-pub nth_drop : {X : Type 0} (n : ℕ) (xs : List X) (i : ℕ) → slice_get (drop n xs) i ≡ slice_get xs (n + i)
-nth_drop zero xs i = ap (slice_get xs) (sym (zero-add i))
-nth_drop (suc n) [] i = refl
-nth_drop (suc n) (x ∷ xs) i = nth_drop n xs i ∙ ap (slice_get (x ∷ xs)) (sym (suc-add n i))
+-- As much as a front has, taken again, is the front.
+take_front : {X : Type 0} (n k : ℕ) (xs : List X) → k ≡ length (take n xs) → take k xs ≡ take n xs
+take_front n k xs e = let h : k ≡ min n (length xs) = simp length-take at e in rw h (take_min n xs)
 
-pub nth_front : {X : Type 0} (xs ys : List X) (i : ℕ) → i < length xs → slice_get (xs ++ ys) i ≡ slice_get xs i
-nth_front [] ys i h = absurd (omega arith)
-nth_front (x ∷ xs) ys zero h = refl
-nth_front (x ∷ xs) ys (suc i) h = nth_front xs ys i (omega arith)
+-- The symbol at a place, as `get` of what was taken gives it.
+pub copied_get : {X : Type 0} (n k : ℕ) (xs : List X) (i : ℕ) (r : Option (Bor X)) →
+    k ≡ length (take n xs) → IsItemAt (take k xs) i r → option_copied r ≡ slice_get (take n xs) i
+copied_get n k xs i None e h = let f = take_front n k xs e in grind (arith, common_steps, gets)
+copied_get n k xs i (Some x) e h = let f = take_front n k xs e in grind (arith, common_steps, gets)
 
-pub nth_back : {X : Type 0} (xs ys : List X) (i k : ℕ) → i ≡ length xs + k → slice_get (xs ++ ys) i ≡ slice_get ys k
-nth_back [] ys i k e = let f : i ≡ k = omega arith in ap (slice_get ys) f
-nth_back (x ∷ xs) ys zero k e = absurd (omega arith)
-nth_back (x ∷ xs) ys (suc i) k e = nth_back xs ys i k (omega arith)
-
-pub nth_high : (bytes : List ℕ) (k i : ℕ) → i ≡ 2 * k → k < length bytes → slice_get (digits bytes) i ≡ Some (half_digit (get_or bytes k 0 / 16))
-nth_high [] k i e h = absurd (omega arith)
-nth_high (b ∷ bytes) zero zero e h = refl
-nth_high (b ∷ bytes) zero (suc i) e h = absurd (omega arith)
-nth_high (b ∷ bytes) (suc k) zero e h = absurd (omega arith)
-nth_high (b ∷ bytes) (suc k) (suc zero) e h = absurd (omega arith)
-nth_high (b ∷ bytes) (suc k) (suc (suc i)) e h = nth_high bytes k i (omega arith) (omega arith)
-
-pub nth_low : (bytes : List ℕ) (k i : ℕ) → i ≡ 2 * k + 1 → k < length bytes → slice_get (digits bytes) i ≡ Some (half_digit (get_or bytes k 0 % 16))
-nth_low [] k i e h = absurd (omega arith)
-nth_low (b ∷ bytes) zero zero e h = absurd (omega arith)
-nth_low (b ∷ bytes) zero (suc zero) e h = refl
-nth_low (b ∷ bytes) zero (suc (suc i)) e h = absurd (omega arith)
-nth_low (b ∷ bytes) (suc k) zero e h = absurd (omega arith)
-nth_low (b ∷ bytes) (suc k) (suc zero) e h = absurd (omega arith)
-nth_low (b ∷ bytes) (suc k) (suc (suc i)) e h = nth_low bytes k i (omega arith) (omega arith)
-
-pub length_digits : (bytes : List ℕ) → length (digits bytes) ≡ 2 * length bytes
+-- The digits of bytes: two of each, the high half first.
+length_digits : (bytes : List ℕ) → length (digits bytes) ≡ 2 * length bytes
 length_digits [] = refl
-length_digits (b ∷ bytes) = let h = length_digits bytes in omega arith
+length_digits (b ∷ bytes) = omega (arith, length_digits bytes)
 
-pub length_packed : (bytes : List ℕ) → length (packed_list bytes) ≡ 2 * min (length bytes) 32767
-length_packed bytes = length_digits (take 32767 bytes) ∙ simp length-take (omega arith)
+digit_at : (bytes : List ℕ) (i : ℕ) → slice_get (digits bytes) i ≡ option_map (λ b. half_digit (cond (nat_eq (i % 2) 0) (b / 16) (b % 16))) (slice_get bytes (i / 2))
+digit_at [] i = refl
+digit_at (b ∷ bytes) zero = refl
+digit_at (b ∷ bytes) (suc zero) = refl
+digit_at (b ∷ bytes) (suc (suc i)) =
+    let half : suc (suc i) / 2 ≡ suc (i / 2) = omega arith in
+    let rest : suc (suc i) % 2 ≡ i % 2 = omega arith in
+    rw (half, rest) (digit_at bytes i)
 
-module _ (bytes : List ℕ) (place : ℕ) (within : place < length (packed_list bytes)) where
-  within_bytes : (place / 2 < 32767) × (place / 2 < length (take 32767 bytes))
-  within_bytes =
-      let h = length_digits (take 32767 bytes) in
-      let k : length (take 32767 bytes) ≤ 32767 = simp length-take (omega arith) in
-      (omega arith, omega arith)
+-- A packed text holds no more bytes than it takes, so that its symbols are the digits of all of them.
+whole : (bytes : List ℕ) → length bytes ≤ 32767 → digits bytes ≡ packed_list bytes
+whole bytes short = ap digits (sym (take_all 32767 bytes short))
 
-  byte_at : get_or (take 32767 bytes) (place / 2) 0 ≡ get_or bytes (place / 2) 0
-  byte_at = get_or-take 32767 bytes (place / 2) 0 within_bytes.0
+pub length_packed : (bytes : List ℕ) → length bytes ≤ 32767 → 2 * length bytes ≡ length (packed_list bytes)
+length_packed bytes short = sym (length_digits bytes) ∙ ap length (whole bytes short)
 
-  pub packed_high : (digit : ℕ) → place % 2 ≡ 0 → digit ≡ half_digit (get_or bytes (place / 2) 0 / 16) → Some digit ≡ slice_get (packed_list bytes) place
-  packed_high digit even is =
-      ap Some is
-      ∙ sym (nth_high (take 32767 bytes) (place / 2) place (omega arith) within_bytes.1 ∙ ap (λ b. Some (half_digit (b / 16))) byte_at)
+packed_at : (bytes : List ℕ) (i : ℕ) → length bytes ≤ 32767 →
+    slice_get (packed_list bytes) i ≡ option_map (λ b. half_digit (cond (nat_eq (i % 2) 0) (b / 16) (b % 16))) (slice_get bytes (i / 2))
+packed_at bytes i short = rw (← whole bytes short) (digit_at bytes i)
 
-  pub packed_low : (digit : ℕ) → (place % 2 ≡ 0 → ⊥) → digit ≡ half_digit (get_or bytes (place / 2) 0 % 16) → Some digit ≡ slice_get (packed_list bytes) place
-  packed_low digit odd is =
-      ap Some is
-      ∙ sym (nth_low (take 32767 bytes) (place / 2) place (omega arith) within_bytes.1 ∙ ap (λ b. Some (half_digit (b % 16))) byte_at)
+pub packed_past : (bytes : List ℕ) (i : ℕ) → length bytes ≤ 32767 → length bytes ≤ i / 2 → None ≡ slice_get (packed_list bytes) i
+packed_past bytes i short h = rw (packed_at bytes i short, slice_get_past bytes (i / 2) h) refl
 
--- One more symbol copied.
-copied_suc : {X : Type 0} (xs ys : List X) (i : ℕ) (x : X) → slice_get xs i ≡ Some x → i < length ys →
-    set (take i xs ++ drop i ys) i x ≡ take (suc i) xs ++ drop (suc i) ys
-copied_suc [] ys i x e h = let z : ◌≡◌ {A = ℕ} 0 1 = cc in absurd (omega arith)
-copied_suc (w ∷ xs) [] i x e h = absurd (omega arith)
-copied_suc (w ∷ xs) (y ∷ ys) zero x e h = let z : x ≡ w = cc in ap (λ v. v ∷ ys) z
-copied_suc (w ∷ xs) (y ∷ ys) (suc i) x e h = ap (λ v. w ∷ v) (copied_suc xs ys i x e (omega arith))
+pub packed_high : (bytes : List ℕ) (i b : ℕ) → length bytes ≤ 32767 → i % 2 ≡ 0 → slice_get bytes (i / 2) ≡ Some b →
+    Some (half_digit (b / 16)) ≡ slice_get (packed_list bytes) i
+packed_high bytes i b short even at = rw (packed_at bytes i short, at, even) refl
 
-pub copied_more : {X : Type 0} (xs ys : List X) (i : ℕ) (x : X) → slice_get xs i ≡ Some x → i < length ys →
-    set (take i xs ++ drop i ys) i x ≡ take (i + 1) xs ++ drop (i + 1) ys
-copied_more xs ys i x e h = rw add-one (copied_suc xs ys i x e h)
+pub packed_low : (bytes : List ℕ) (i b : ℕ) → length bytes ≤ 32767 → (i % 2 ≡ 0 → ⊥) → slice_get bytes (i / 2) ≡ Some b →
+    Some (half_digit (b % 16)) ≡ slice_get (packed_list bytes) i
+packed_low bytes i b short odd at = let one : i % 2 ≡ 1 = omega arith in rw (packed_at bytes i short, at, one) refl
 
-pub none_past : {X : Type 0} (xs : List X) (i : ℕ) → slice_get xs i ≡ None → length xs ≤ i
-none_past [] i e = omega arith
-none_past (x ∷ xs) zero e = let z : ◌≡◌ {A = ℕ} 0 1 = cc in absurd (omega arith)
-none_past (x ∷ xs) (suc i) e = let h = none_past xs i e in omega arith
+-- What is taken of bytes is their front, and packs to the same list.
+module _ (k : ℕ) (bytes : List ℕ) (e : k ≡ min (length bytes) 32767) where
+  pub taken : take k bytes ≡ take 32767 bytes
+  taken = take_front 32767 k bytes (simp length-take (omega arith))
 
--- Taking as many as there are, up to a limit, is taking up to the limit.
-pub take_within : {X : Type 0} (n m : ℕ) (xs : List X) → n ≡ min (length xs) m → take n xs ≡ take m xs
-take_within zero zero xs e = refl
-take_within zero (suc m) [] e = refl
-take_within zero (suc m) (x ∷ xs) e = absurd (omega arith)
-take_within (suc n) zero xs e = absurd (omega arith)
-take_within (suc n) (suc m) [] e = refl
-take_within (suc n) (suc m) (x ∷ xs) e = ap (λ v. x ∷ v) (take_within n m xs (omega arith))
+  pub taken_packed : packed_list (take k bytes) ≡ packed_list bytes
+  taken_packed = ap packed_list taken ∙ ap digits (take-take 32767 32767 bytes (omega arith))
 
-pub taken_packed : (n : ℕ) (bytes : List ℕ) → n ≡ min (length bytes) 32767 → packed_list (take n bytes) ≡ packed_list bytes
-taken_packed n bytes e = ap digits (take_all 32767 (take n bytes) (simp length-take (omega arith)) ∙ take_within n 32767 bytes e)
+-- How long a plain text and a join are.
+pub length_plain : {X : Type 0} (xs : List X) → length (take 65535 xs) ≡ min (length xs) 65535
+length_plain xs = simp length-take (omega arith)
+
+pub length_join : {X : Type 0} (xs ys : List X) → length (take 65535 (xs ++ ys)) ≡ min (length xs + length ys) 65535
+length_join xs ys = simp (length-take, length-append) (omega arith)

@@ -1,26 +1,19 @@
--- Each text's list has at most 65,535 symbols: the proofs that the texts give as their `short`.
+-- Each text's list has at most 65,535 symbols.
 use Rattle.std.specs.Prelude.{◌≡◌, ℕ, zero, suc, ◌+◌, ◌≤◌, List, [], ◌∷◌, ◌++◌, length, take, drop}
-use Rattle.std.proofs.Common.{zero-le, suc-le-suc, sym, ◌∙◌, ap, subst, le_trans, suc-add, add-suc, lit≤}
-use Rattle.std.proofs.Math.Nat.{le_step}
-use Rattle.std.proofs.Math.Nat as nat
+use Rattle.std.proofs.Common.{zero-le, suc-le-suc, sym, ◌∙◌, ap, subst, le_trans, suc-add, add-suc, lit≤, length-take, length-drop}
+use Rattle.std.proofs.Math.Nat.{min-le_left, min-le_right, sub-le}
 use Rattle.texts.specs.declared.either.Either.{Either}
 use Rattle.texts.specs.declared.either.Either.TheVariants.{First, Second}
 use Rattle.texts.specs.Lists.{plain_list, digits, packed_list, window_list, join_list, either}
 
 take_at_most : {S : Type 0} (n : ℕ) (xs : List S) → length (take n xs) ≤ n
-take_at_most zero xs = zero-le
-take_at_most (suc n) [] = zero-le
-take_at_most (suc n) (x ∷ xs) = suc-le-suc (take_at_most n xs)
+take_at_most n xs = subst (λ m. m ≤ n) (sym (length-take n xs)) (min-le_left n (length xs))
 
 take_no_longer : {S : Type 0} (n : ℕ) (xs : List S) → length (take n xs) ≤ length xs
-take_no_longer zero xs = zero-le
-take_no_longer (suc n) [] = zero-le
-take_no_longer (suc n) (x ∷ xs) = suc-le-suc (take_no_longer n xs)
+take_no_longer n xs = subst (λ m. m ≤ length xs) (sym (length-take n xs)) (min-le_right n (length xs))
 
 drop_no_longer : {S : Type 0} (n : ℕ) (xs : List S) → length (drop n xs) ≤ length xs
-drop_no_longer zero xs = nat.le_refl (length xs)
-drop_no_longer (suc n) [] = zero-le
-drop_no_longer (suc n) (x ∷ xs) = le_step (drop_no_longer n xs)
+drop_no_longer n xs = subst (λ m. m ≤ length xs) (sym (length-drop n xs)) (sub-le (length xs) n)
 
 digits_at_most : (n : ℕ) (bytes : List ℕ) → length (digits (take n bytes)) ≤ n + n
 digits_at_most zero bytes = zero-le

@@ -7,11 +7,11 @@ pub fn copy_symbols<T: Text>(text: &T, out: &mut [T::Symbol]) -> usize
     ensures count { result ≡ min (length (T.Text.list text.now)) (length out.old) }
     ensures filled { out.new ≡ take result (T.Text.list text.now) ++ drop result out.old }
 {
-    let count = text.len().min(out.len());
-    for place in 0..count {
-        if let Some(symbol) = text.symbol(place) {
-            out[place] = symbol;
-        }
+    for (place, slot) in out.iter_mut().enumerate() {
+        let Some(symbol) = text.symbol(place) else {
+            return place;
+        };
+        *slot = symbol;
     }
-    count
+    out.len()
 }

@@ -1,11 +1,13 @@
 ghost use Rattle.std.specs.Prelude.{◌≡◌, length};
 ghost use Rattle.std.specs.List.{slice_get};
 ghost use Rattle.texts.specs.Lists.{either};
+ghost use Rattle.std.proofs.Common.{rules};
 ghost use Rattle.texts.specs.Short.{either_short};
 
 use crate::text::Text;
 
 /// One of two texts over the same symbols, so that one list can mix texts of any sort.
+// The library's `Either` has other names for its two cases, and these are exported.
 #[derive(Clone, Copy)]
 pub enum Either<A, B> {
     First(A),
@@ -19,7 +21,7 @@ impl<A: Text, B: Text<Symbol = A::Symbol>> Text for Either<A, B> {
 
     ghost cut = { λ e. either A.Text.cut B.Text.cut e };
 
-    ghost short = { λ e. either_short A.Text.list B.Text.list A.Text.short B.Text.short e };
+    ghost short = { Prim.search (rules, either_short) };
 
     fn len(&self) -> usize
         ensures { result ≡ length (either A.Text.list B.Text.list self.now) }

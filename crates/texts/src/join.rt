@@ -21,6 +21,7 @@ impl<A: Text, B: Text<Symbol = A::Symbol>> Text for Join<A, B> {
 
     ghost short = { λ j. join_short (A.Text.list j.front) (B.Text.list j.back) };
 
+    #[tactic(auto, using(crate::proofs::Nth::length_join))]
     fn len(&self) -> usize
         ensures { result ≡ length (join_list (A.Text.list self.now.front) (B.Text.list self.now.back)) }
     {

@@ -1,4 +1,4 @@
-ghost use Rattle.std.specs.Prelude.{◌≡◌, ◌<◌, length, take};
+ghost use Rattle.std.specs.Prelude.{◌≡◌, ◌<◌, ◌≤◌, length, take};
 ghost use Rattle.std.specs.List.{slice_get};
 ghost use Rattle.texts.specs.Lists.{half_digit, packed_list, packed_cut};
 ghost use Rattle.texts.specs.Short.{packed_short};
@@ -13,11 +13,14 @@ pub const MOST_BYTES: usize = 32_767;
 pub struct Packed<'a> {
     // what was taken when the text was made: its length is fixed from then on
     bytes: &'a [u8],
+    // whether there were more: `new` promises this field too, and the rest is not kept to count again
     cut: bool,
+    ghost within: { length bytes.now ≤ 32767 },
 }
 
 impl<'a> Packed<'a> {
     /// The text of these bytes.
+    #[tactic(auto, using(crate::proofs::Nth::taken, crate::proofs::Nth::taken_packed))]
     pub fn new(bytes: &'a [u8]) -> Packed<'a>
         ensures taken { result.bytes.now ≡ take 32767 bytes.now }
         ensures list { packed_list result.bytes.now ≡ packed_list bytes.now }
@@ -25,7 +28,7 @@ impl<'a> Packed<'a> {
     {
         let taken = bytes.len().min(MOST_BYTES);
         Packed {
-            bytes: &bytes[0..taken],
+            bytes: &bytes[..taken],
             cut: bytes.len() > MOST_BYTES,
         }
     }
@@ -36,7 +39,7 @@ fn digit(half: u8) -> u8
     requires { half < 16 }
     ensures { result ≡ half_digit half }
 {
-    if half <= 9 { 48 + half } else { 55 + half }
+    b"0123456789ABCDEF"[usize::from(half)]
 }
 
 impl<'a> Text for Packed<'a> {
@@ -48,24 +51,19 @@ impl<'a> Text for Packed<'a> {
 
     ghost short = { λ t. packed_short t.bytes.now };
 
+    #[tactic(auto, using(crate::proofs::Nth::length_packed))]
     fn len(&self) -> usize
         ensures { result ≡ length (packed_list self.now.bytes.now) }
     {
-        2 * self.bytes.len().min(MOST_BYTES)
+        2 * self.bytes.len()
     }
 
     fn symbol(&self, place: usize) -> Option<u8>
         ensures { result ≡ slice_get (packed_list self.now.bytes.now) place }
     {
-        if place >= self.len() {
-            return None;
-        }
-        let byte = self.bytes[place / 2];
-        if place % 2 == 0 {
-            Some(digit(byte / 16))
-        } else {
-            Some(digit(byte % 16))
-        }
+        let byte = self.bytes.get(place / 2)?;
+        let half = if place % 2 == 0 { byte / 16 } else { byte % 16 };
+        Some(digit(half))
     }
 
     fn is_cut(&self) -> bool

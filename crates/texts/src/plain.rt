@@ -29,6 +29,7 @@ impl<'a, S: Copy> Text for Plain<'a, S> {
 
     ghost short = { λ t. plain_short t.symbols.now };
 
+    #[tactic(auto, using(crate::proofs::Nth::length_plain))]
     fn len(&self) -> usize
         ensures { result ≡ length (plain_list self.now.symbols.now) }
     {
@@ -38,11 +39,7 @@ impl<'a, S: Copy> Text for Plain<'a, S> {
     fn symbol(&self, place: usize) -> Option<S>
         ensures { result ≡ slice_get (plain_list self.now.symbols.now) place }
     {
-        if place < self.symbols.len() && place < MOST_SYMBOLS {
-            Some(self.symbols[place])
-        } else {
-            None
-        }
+        self.symbols[..self.len()].get(place).copied()
     }
 
     fn is_cut(&self) -> bool

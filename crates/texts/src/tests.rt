@@ -50,60 +50,22 @@ fn packed_gives_the_high_half_first(rt: HostRuntime) {
 #[test]
 fn window_at_its_edges(rt: HostRuntime) {
     let below = Plain::new(b"abcde");
-    assert_eq!(rt;
-        Window {
-            below,
-            skip: 0,
-            size: 0,
-        }
-        .len(),
-        0
-    );
-    assert_eq!(rt;
-        Window {
-            below,
-            skip: 0,
-            size: 65_535,
-        }
-        .len(),
-        5
-    );
-    assert_eq!(rt;
-        Window {
-            below,
-            skip: 65_535,
-            size: 65_535,
-        }
-        .len(),
-        0
-    );
-    assert_eq!(rt;
-        Window {
-            below,
-            skip: 65_535,
-            size: 65_535,
-        }
-        .symbol(0),
-        None
-    );
-    let middle = Window {
-        below,
-        skip: 1,
-        size: 3,
-    };
-    assert_eq!(rt; middle.len(), 3);
-    assert_eq!(rt; middle.symbol(2), Some(b'd'));
-    assert_eq!(rt; middle.symbol(3), None);
-    assert_eq!(rt;
-        Window {
-            below,
-            skip: 4,
-            size: 3,
-        }
-        .symbol(1),
-        None
-    );
-    assert_eq!(rt; middle.symbol(usize::MAX), None);
+    for (skip, size, len) in [(0, 0, 0), (0, 65_535, 5), (65_535, 65_535, 0), (1, 3, 3)] {
+        assert_eq!(rt; Window { below, skip, size }.len(), len, "{skip}, {size}");
+    }
+    for (skip, size, place, symbol) in [
+        (65_535, 65_535, 0, None),
+        (1, 3, 2, Some(b'd')),
+        (1, 3, 3, None),
+        (4, 3, 1, None),
+        (1, 3, usize::MAX, None),
+    ] {
+        assert_eq!(rt;
+            Window { below, skip, size }.symbol(place),
+            symbol,
+            "{skip}, {size}, {place}"
+        );
+    }
 }
 
 #[test]

@@ -16,9 +16,6 @@ pub trait Text {
     // whether there were more symbols than the list has
     ghost cut: { Self → Bool };
 
-    // the list is no longer than a text may be: each implementation gives the proof
-    ghost short: { (t : Self) → length (list t) ≤ 65535 };
-
     /// How many symbols there are.
     fn len(&self) -> usize
         ensures { result ≡ length (list self.now) };
@@ -30,4 +27,7 @@ pub trait Text {
     /// Whether the text was cut short.
     fn is_cut(&self) -> bool
         ensures { result ≡ cut self.now };
+
+    // the list is no longer than a text may be
+    ghost short: { (t : Self) → length (list t) ≤ 65535 };
 }

@@ -1,6 +1,7 @@
 ghost use Rattle.std.specs.Prelude.{◌≡◌, length};
 ghost use Rattle.std.specs.List.{slice_get};
 ghost use Rattle.texts.specs.Lists.{window_list};
+ghost use Rattle.std.proofs.Common.{rules};
 ghost use Rattle.texts.specs.Short.{window_short};
 
 use crate::text::Text;
@@ -20,7 +21,7 @@ impl<T: Text> Text for Window<T> {
 
     ghost cut = { λ w. T.Text.cut w.below };
 
-    ghost short = { λ w. window_short w.skip w.size (T.Text.list w.below) (T.Text.short w.below) };
+    ghost short = { Prim.search (rules, window_short) };
 
     fn len(&self) -> usize
         ensures { result ≡ length (window_list self.now.skip self.now.size (T.Text.list self.now.below)) }
@@ -32,6 +33,7 @@ impl<T: Text> Text for Window<T> {
     fn symbol(&self, place: usize) -> Option<T::Symbol>
         ensures { result ≡ slice_get (window_list self.now.skip self.now.size (T.Text.list self.now.below)) place }
     {
+        // this test comes first, so that the sum cannot wrap; `then` with `flatten` is no plainer
         if place < usize::from(self.size) {
             self.below.symbol(usize::from(self.skip) + place)
         } else {

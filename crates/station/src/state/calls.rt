@@ -11,6 +11,7 @@ impl<K: Kind> Station<K> {
     /// A station for this kind, with no book, nothing on the bill and no reads counted.
     ///
     /// Calls that follow one another from it make a lawful log, and of lawful logs the law holds.
+    #[tactic(auto, using(crate::proofs::Whole::the_law))]
     pub fn new(kind: K) -> Self
         ensures made { (result.kind ≡ kind) × (result.sum ≡ 0) × (result.reads ≡ 0) }
         ensures stands { Stands {S = K.Symbol} kind result [] }
@@ -25,6 +26,7 @@ impl<K: Kind> Station<K> {
     }
 
     /// The steps on the bill.
+    #[tactic(auto, using(crate::specs::Law::billed))]
     pub fn bill(&self) -> u64
         ensures keeps { Keeps {S = K.Symbol} self.now bill (total result) self.now }
         ensures sum { result ≡ self.now.sum }
@@ -33,6 +35,7 @@ impl<K: Kind> Station<K> {
     }
 
     /// The steps on the bill; the sum and the count of reads start again from 0.
+    #[tactic(auto, using(crate::specs::Law::settled))]
     pub fn settle(&mut self) -> u64
         ensures keeps { Keeps {S = K.Symbol} self.old settle (total result) self.new }
         ensures sum { result ≡ self.old.sum }

@@ -1,21 +1,19 @@
-use Rattle.std.proofs.Common.{sym, arith, rules}
-use Rattle.std.proofs.lemmas.Option.{slice_get_past}
-use Rattle.texts.specs.Lists.{packed_list}
-use Rattle.texts.proofs.Nth.{length_packed, packed_high, packed_low}
+use Rattle.std.proofs.Common.{◌/◌, refl, rules, arith}
+use Rattle.std.proofs.lemmas.Option.{slice_get_read}
+use Rattle.texts.proofs.Nth.{packed_past, packed_high, packed_low}
 use Rattle.texts.proofs.packed.PackedText.symbol.Goals as goal
+use Rattle.texts.proofs.packed.PackedText.symbol.Goals.{then-place-eq0, else-place-eq0}
 
-pub returns-then-place-len : goal.returns-then-place-len
-returns-then-place-len c =
-    sym (slice_get_past (packed_list c.args.self.now.bytes.now) c.args.place (omega (arith, c.len.ensures)))
+pub returns-in_err-byte : goal.returns-in_err-byte
+returns-in_err-byte c =
+    let past = packed_past c.args.self.now.bytes.now c.args.place c.args.self.now.within (search rules) in
+    search rules
 
-pub bounds-self-place : goal.bounds-self-place
-bounds-self-place c =
-    omega (arith, c.len.ensures, length_packed c.args.self.now.bytes.now)
-
-pub returns-then-place-eq0 : goal.returns-then-place-eq0
-returns-then-place-eq0 c =
-    packed_high c.args.self.now.bytes.now c.args.place (omega (arith, c.len.ensures)) c.digit.result (omega arith) (search rules)
-
-pub returns-else-place-eq0 : goal.returns-else-place-eq0
-returns-else-place-eq0 c =
-    packed_low c.args.self.now.bytes.now c.args.place (omega (arith, c.len.ensures)) c.digit-else-place-eq0.result (λ even. omega arith) (search rules)
+pub returns : goal.returns
+returns c =
+    let bytes = c.args.self.now.bytes.now in
+    let at = slice_get_read bytes _ (c.args.place / 2) c.in_ok-byte.byte.now refl (search rules) (search rules) in
+    elim c.if-place-eq0.branch [
+      | then-place-eq0 w ↦ let high = packed_high bytes c.args.place _ c.args.self.now.within (omega arith) at in search rules
+      | else-place-eq0 w ↦ let low = packed_low bytes c.args.place _ c.args.self.now.within (λ even. omega arith) at in search rules
+    ]

@@ -1,5 +1,0 @@
-use Rattle.std.proofs.Common.{arith, length-append, length-take}
-use Rattle.texts.proofs.join.JoinText.len.Goals as goal
-
-pub returns : goal.returns
-returns g c = simp (length-take, length-append) (omega arith)
