@@ -1,4 +1,3 @@
 mod Escaping
 mod Joining
 mod Asked
-mod Saying
