@@ -1,5 +1,5 @@
 -- The law over lawful logs.
-use Rattle.std.proofs.Common.{◌≡◌, ℕ, ◌+◌, ◌<◌, ◌≤◌, Bool, ◌⊎◌, List, [], ◌∷◌, ◌++◌, length, drop, Some, None, Option, refl, ap, ◌∙◌, ⊎_elim, arith}
+use Rattle.std.proofs.Common.{◌≡◌, ℕ, ◌+◌, ◌<◌, ◌≤◌, Bool, ◌⊎◌, List, [], ◌∷◌, ◌++◌, length, drop, Some, None, Option, refl, ap, ◌∙◌, inl, inr, arith}
 use Rattle.std.proofs.lemmas.Bool.{cases_lt}
 use Rattle.kinds.specs.declared.class.Class.{Class}
 use Rattle.grammar.specs.Expr.{Grammar}
@@ -66,21 +66,16 @@ module _ (lawful : Class → Bool) {S : Type 0} where
   due_one (settled h) (settled k) = cc
 
   due_load : (log : Log S) (bytes : List ℕ) → (((g : Grammar) × Accepts lawful bytes g) ⊎ ((e : BookFault) × Refuses lawful bytes e)) → (reply : Reply) × Due lawful log (load bytes) reply
-  due_load log bytes v =
-      ⊎_elim
-      (λ (a : (g : Grammar) × Accepts lawful bytes g).
-      let s = (accepted_as_spelled lawful bytes a.0).0 a.1 in
-      (loaded (counts_of a.0), accepted s.0 s.1 refl))
-      (λ (r : (e : BookFault) × Refuses lawful bytes e). (faulted r.0, refused r.1))
-      v
+  due_load log bytes (inl (g, a)) = let s = (accepted_as_spelled lawful bytes g).0 a in (loaded (counts_of g), accepted s.0 s.1 refl)
+  due_load log bytes (inr (e, r)) = (faulted e, refused r)
+
+  due_fitting : (log : Log S) (out bytes : List ℕ) → in_force log ≡ Some bytes → (length out < length bytes) ⊎ (length bytes ≤ length out) → (reply : Reply) × Due lawful log (show out) reply
+  due_fitting log out bytes e (inl h) = (unshown TooShort out, too_short e h refl)
+  due_fitting log out bytes e (inr h) = (shown (length bytes) (bytes ++ drop (length bytes) out), written e h refl refl)
 
   due_show : (log : Log S) (out : List ℕ) (force : Option (List ℕ)) → in_force log ≡ force → (reply : Reply) × Due lawful log (show out) reply
   due_show log out None e = (unshown NoBook out, no_book e refl)
-  due_show log out (Some bytes) e =
-      ⊎_elim
-      (λ (h : length out < length bytes). (unshown TooShort out, too_short e h refl))
-      (λ (h : length bytes ≤ length out). (shown (length bytes) (bytes ++ drop (length bytes) out), written e h refl refl))
-      (cases_lt (length out) (length bytes))
+  due_show log out (Some bytes) e = due_fitting log out bytes e (cases_lt (length out) (length bytes))
 
   due_some : (log : Log S) (call : Call S) → (reply : Reply) × Due lawful log call reply
   due_some log (load bytes) = due_load log bytes (one_verdict lawful bytes).some

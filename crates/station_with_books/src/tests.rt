@@ -2,7 +2,7 @@ use crate::answers::{Counts, ShowRefusal};
 use crate::request::{Answer, Request};
 use crate::serving::serve;
 use crate::state::Station;
-use books::BookFault;
+use books::{BookFault, read_book};
 use kinds::{ByteKind, CommandKind};
 use tokens::Spot;
 
@@ -44,6 +44,12 @@ fn load_answers_the_counts(rt: HostRuntime) {
         })
     );
     assert_eq!(rt; station.load(ANY), Ok(ANY_COUNTS));
+}
+
+#[test]
+fn counts_are_made_from_a_book(rt: HostRuntime) {
+    let counts = read_book(&ByteKind, ANY).map(|book| Counts::from(&book));
+    assert_eq!(rt; counts, Ok(ANY_COUNTS));
 }
 
 #[test]

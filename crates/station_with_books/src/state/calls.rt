@@ -16,7 +16,7 @@ impl<K: Kind> Station<K> {
     /// A station for this kind, with no book, nothing on the bill and no reads counted.
     ///
     /// Calls that follow one another from it make a lawful log, and of lawful logs the law holds.
-    #[tactic(auto, using(crate::proofs::Whole::the_law, crate::proofs::Links::linked_lawful))]
+    #[tactic(auto, using(crate::proofs::Whole::the_law))]
     pub fn new(kind: K) -> Self
         ensures made { (result.kind ≡ kind) × (result.book ≡ None) × (result.sum ≡ 0) × (result.reads ≡ 0) }
         ensures stands { Stands {S = K.Symbol} K.Kind.lawful kind result [] }

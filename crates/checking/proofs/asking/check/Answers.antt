@@ -1,5 +1,6 @@
-use Rattle.std.proofs.Common.{arith}
-use Rattle.checking.specs.Checks.{over, accepted, refused}
+use Rattle.std.proofs.Common.{sym, subst, arith}
+use Rattle.checking.specs.Checks.{Checked, over, accepted, refused}
+use Rattle.checking.specs.Reports.{acceptance}
 use Rattle.checking.proofs.Asked.{shows_loaded}
 use Rattle.checking.proofs.asking.check.Goals as goal
 use Rattle.checking.proofs.asking.check.Goals.{in-Ok+in_ok-buffer-in-Ok+in_ok-put_acceptance-in-Ok, in-Err+in_ok-put_refusal-in-Err}
@@ -18,7 +19,7 @@ returns c =
           let t = w.in-Ok.ensures.loads in
           let p = w.in_ok-put_acceptance-in-Ok.ensures in
           let same = (shows_loaded _ _ t (omega (arith, w.as_mut_slice-out.ensures.len, w.in_ok-buffer-in-Ok.ensures.len)) w.show.ensures.shows).1 _ w.unwrap-length.ensures in
-          rw (w.text-is, p, c.new-text.ensures.items, same) (accepted (omega arith) t.spells t.allowed t.counts_are)
+          rw (w.text-is, p, c.new-text.ensures.items) (subst (λ b. Checked c.args.input.now (acceptance w.in-Ok.counts b)) (sym same) (accepted (omega arith) t.spells t.allowed t.counts_are))
       | in-Err+in_ok-put_refusal-in-Err w ↦
           let p = w.in_ok-put_refusal-in-Err.ensures in
           rw (w.text-is, p.2, c.new-text.ensures.items) (refused (omega arith) w.in-Err.ensures.loads.0 p.1)
