@@ -2,7 +2,7 @@ use crate::answers::{Counts, ShowRefusal};
 use books::BookFault;
 
 /// A call, as a value.
-#[derive(Clone, Copy)]
+#[derive(Clone, Copy, PartialEq, Eq, Debug)]
 pub enum Request<'a> {
     /// Load these bytes.
     Load(&'a [u8]),

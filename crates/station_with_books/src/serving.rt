@@ -25,12 +25,14 @@ pub fn serve<K: Kind + Drop>(
     ensures law { Law (K.Kind.lawful kind) K.Symbol }
 {
     let mut station = Station::new(kind);
-    let count = requests.len().min(answers.len());
     // Not by `zip`: of what is written through it the prover keeps only the length.
-    for (i, answer) in answers[..count].iter_mut().enumerate() {
-        *answer = ask(&mut station, requests[i], out);
+    for (i, answer) in answers.iter_mut().enumerate() {
+        let Some(request) = requests.get(i) else {
+            return i;
+        };
+        *answer = ask(&mut station, *request, out);
     }
-    count
+    answers.len()
 }
 
 // One request.

@@ -117,6 +117,13 @@ fn refusals_have_their_numbers(rt: HostRuntime) {
 }
 
 #[test]
+fn requests_are_compared_by_their_bytes(rt: HostRuntime) {
+    assert_eq!(rt; Request::Load(ANY), Request::Load(b"(rule (any))\n"));
+    assert_ne!(rt; Request::Load(ANY), Request::Load(LOOP));
+    assert_ne!(rt; Request::Show(12), Request::Show(13));
+}
+
+#[test]
 fn serve_runs_every_call(rt: HostRuntime) {
     let requests = [
         Request::Show(20),
