@@ -4,7 +4,7 @@ ghost use Rattle.checking.specs.Checks.{Checked};
 use crate::report::{put_acceptance, put_refusal};
 use books::MOST_BYTES;
 use kinds::ByteKind;
-use station_with_books::{Answer, Request, serve};
+use station_with_books::Station;
 use std::alloc::{AllocError, Global};
 
 /// How many bytes are looked at: well above what a book may have, so that the fault of a book that is
@@ -21,23 +21,16 @@ pub fn check(heap: Global, input: &[u8]) -> Result<Vec<u8>, AllocError>
         text.extend_from_slice(b"input too long\n")?;
         return Ok(text);
     }
-    let mut shown = vec![in heap; 0; MOST_BYTES]?;
-    let requests = [Request::Load(input), Request::Show(MOST_BYTES)];
-    let mut answers = [Answer::Total(0); 2];
-    serve(ByteKind, &requests, shown.as_mut_slice(), &mut answers);
-    let [loaded, showed] = answers;
-    match loaded {
-        Answer::Refused(fault) => put_refusal(&mut text, input, &fault)?,
-        Answer::Loaded(counts) => match showed {
-            Answer::Shown(length) => {
-                shown.truncate(length);
-                put_acceptance(&mut text, counts, shown.as_slice())?;
-            }
-            // The buffer has room for any book.
-            _ => {}
-        },
-        // A station answers a load in no other way.
-        _ => {}
+    let mut station = Station::new(ByteKind);
+    match station.load(input) {
+        Ok(counts) => {
+            let mut buffer = vec![in heap; 0; MOST_BYTES]?;
+            let out = buffer.as_mut_slice();
+            // It has room for any book.
+            let length = station.show(out).unwrap();
+            put_acceptance(&mut text, counts, &out[..length])?;
+        }
+        Err(fault) => put_refusal(&mut text, input, &fault)?,
     }
     Ok(text)
 }

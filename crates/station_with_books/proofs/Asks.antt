@@ -1,39 +1,30 @@
 -- A request that was asked and answered keeps the promise of its call.
-use Rattle.std.proofs.Common.{◌≡◌, ℕ, ◌<◌, ◌≤◌, min, Bool, List, ◌++◌, length, take, drop, sym, refl, ap, ◌∙◌, subst, ⊎_elim, arith}
-use Rattle.std.proofs.lemmas.List.{take_all, drop_all}
-use Rattle.std.proofs.lemmas.Bool.{cases_lt}
+use Rattle.std.proofs.Common.{◌≡◌, ℕ, Bool, List, ◌++◌, length, min, take, drop, Ok, Err, Result, refl}
+use Rattle.std.proofs.lemmas.List.{take_min, drop_min}
 use Rattle.kinds.specs.declared.class.Class.{Class}
+use Rattle.books.specs.declared.fault.BookFault.{BookFault}
 use Rattle.station_with_books.specs.declared.state.Station.{Station}
+use Rattle.station_with_books.specs.declared.answers.Counts.{Counts}
 use Rattle.station_with_books.specs.declared.answers.ShowRefusal.{ShowRefusal}
 use Rattle.station_with_books.specs.declared.request.Request.{Request}
-use Rattle.station_with_books.specs.declared.request.Request.TheVariants.{Show}
-use Rattle.station_with_books.specs.declared.request.Answer.{Answer}
-use Rattle.station_with_books.specs.declared.request.Answer.TheVariants.{Shown, NotShown}
-use Rattle.station_with_books.specs.Law.{show, Reply, shown, unshown}
-use Rattle.station_with_books.specs.Stand.{Keeps}
-use Rattle.station_with_books.specs.Served.{call_of, answer_of, out_after, Asked}
+use Rattle.station_with_books.specs.declared.request.Request.TheVariants.{Load, Show, Bill, Settle}
+use Rattle.station_with_books.specs.declared.request.Answer.TheVariants.{Loaded, Shown, Total}
+use Rattle.station_with_books.specs.Law.{load, show, bill, settle, total}
+use Rattle.station_with_books.specs.Stand.{Keeps, load_reply, show_reply}
+use Rattle.station_with_books.specs.Served.{Asked}
 
-module _ {K S : Type 0} (lawful : K → Class → Bool) {before after : Station K} {out out_then : List ℕ} where
-  pub asked_as : {request made : Request} {answer : Answer} (reply : Reply) → request ≡ made → Keeps {S = S} lawful before (call_of out made) reply after → answer ≡ answer_of reply → out_then ≡ out_after out made reply → Asked S lawful before out request answer after out_then
-  asked_as {made = made} {answer = answer} reply e keeps a o =
-      subst (λ r. Asked S lawful before out r answer after out_then) (sym e) (record { reply = reply; keeps = keeps; answer_is = a; out_is = o })
+module _ {K S : Type 0} (lawful : K → Class → Bool) {before after : Station K} {out : List ℕ} {request : Request} where
+  pub asked_load : (bytes : _) (r : Result Counts BookFault) → request ≡ Load bytes → Keeps {S = S} lawful before (load bytes.now) (load_reply r) after → Asked S lawful before out request (Loaded r) after out
+  asked_load bytes (Ok counts) e keeps = rw e (record { reply = _; keeps = keeps; answer_is = refl; out_is = refl })
+  asked_load bytes (Err fault) e keeps = rw e (record { reply = _; keeps = keeps; answer_is = refl; out_is = refl })
 
--- a buffer's front of so many bytes, or of all that it has
-front : (n m : ℕ) (xs : List ℕ) → m ≡ min n (length xs) → take m xs ≡ take n xs
-front n m xs e =
-    ⊎_elim (λ (h : n < length xs). ap (λ k. take k xs) (omega arith)) (λ (h : length xs ≤ n). take_all m xs (omega arith) ∙ sym (take_all n xs h)) (cases_lt n (length xs))
+  -- it has the front of the buffer, or all of it
+  pub asked_show : (n m : ℕ) (r : Result ℕ ShowRefusal) (shown : List ℕ) → request ≡ Show n → m ≡ min n (length out) → Keeps {S = S} lawful before (show (take m out)) (show_reply r shown) after → Asked S lawful before out request (Shown r) after (shown ++ drop m out)
+  asked_show n m (Ok k) shown e least keeps = rw (e, least, drop_min) (record { reply = _; keeps = rw (least, take_min) at keeps; answer_is = refl; out_is = refl })
+  asked_show n m (Err refusal) shown e least keeps = rw (e, least, drop_min) (record { reply = _; keeps = rw (least, take_min) at keeps; answer_is = refl; out_is = refl })
 
-behind : (n m : ℕ) (xs : List ℕ) → m ≡ min n (length xs) → drop m xs ≡ drop n xs
-behind n m xs e =
-    ⊎_elim (λ (h : n < length xs). ap (λ k. drop k xs) (omega arith)) (λ (h : length xs ≤ n). drop_all m xs (omega arith) ∙ sym (drop_all n xs h)) (cases_lt n (length xs))
+  pub asked_bill : (n : ℕ) → request ≡ Bill → Keeps {S = S} lawful before bill (total n) after → Asked S lawful before out request (Total n) after out
+  asked_bill n e keeps = rw e (record { reply = _; keeps = keeps; answer_is = refl; out_is = refl })
 
-module _ {K S : Type 0} (lawful : K → Class → Bool) {station : Station K} (out : List ℕ) {request : Request} (n m : ℕ) (is : request ≡ Show n) (least : m ≡ min n (length out)) (after : List ℕ) where
-  -- the call on the front of the buffer is the request's
-  on_front : {reply : Reply} → Keeps {S = S} lawful station (show (take m out)) reply station → Keeps {S = S} lawful station (call_of out (Show n)) reply station
-  on_front {reply = reply} keeps = subst (λ b. Keeps {S = S} lawful station (show b) reply station) (front n m out least) keeps
-
-  pub asked_shown : (k : ℕ) → Keeps {S = S} lawful station (show (take m out)) (shown k after) station → Asked S lawful station out request (Shown k) station (after ++ drop m out)
-  asked_shown k keeps = asked_as lawful (shown k after) is (on_front keeps) refl (ap (λ b. after ++ b) (behind n m out least))
-
-  pub asked_unshown : (r : ShowRefusal) → Keeps {S = S} lawful station (show (take m out)) (unshown r after) station → Asked S lawful station out request (NotShown r) station (after ++ drop m out)
-  asked_unshown r keeps = asked_as lawful (unshown r after) is (on_front keeps) refl (ap (λ b. after ++ b) (behind n m out least))
+  pub asked_settle : (n : ℕ) → request ≡ Settle → Keeps {S = S} lawful before settle (total n) after → Asked S lawful before out request (Total n) after out
+  asked_settle n e keeps = rw e (record { reply = _; keeps = keeps; answer_is = refl; out_is = refl })

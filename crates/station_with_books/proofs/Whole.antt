@@ -1,5 +1,5 @@
 -- The law over lawful logs.
-use Rattle.std.proofs.Common.{◌≡◌, ℕ, ◌+◌, ◌<◌, ◌≤◌, Bool, ◌⊎◌, List, [], ◌∷◌, ◌++◌, length, drop, Some, None, Option, sym, refl, ap, ◌∙◌, subst, ⊎_elim, arith}
+use Rattle.std.proofs.Common.{◌≡◌, ℕ, ◌+◌, ◌<◌, ◌≤◌, Bool, ◌⊎◌, List, [], ◌∷◌, ◌++◌, length, drop, Some, None, Option, refl, ap, ◌∙◌, inl, inr, arith}
 use Rattle.std.proofs.lemmas.Bool.{cases_lt}
 use Rattle.kinds.specs.declared.class.Class.{Class}
 use Rattle.grammar.specs.Expr.{Grammar}
@@ -38,16 +38,6 @@ last_loaded : {S : Type 0} {since : Log S} (before : Log S) → Unloaded since �
 last_loaded before whole.Unloaded.none = refl
 last_loaded before (whole.Unloaded.more {entry = entry} h u) = force_stays (effect entry) _ h ∙ last_loaded before u
 
-some_once : {a b : List ℕ} → ◌≡◌ {A = Option (List ℕ)} (Some a) (Some b) → a ≡ b
-some_once e = cc
-
-some_none : {a : List ℕ} → ◌≡◌ {A = Option (List ℕ)} None (Some a) → ⊥
-some_none e = let z : ◌≡◌ {A = ℕ} 0 1 = cc in omega arith
-
--- bytes in force are one
-one_force : {force : Option (List ℕ)} {a b : List ℕ} → force ≡ Some a → force ≡ Some b → a ≡ b
-one_force p q = some_once (sym p ∙ q)
-
 module _ (lawful : Class → Bool) where
   -- the grammar of accepted bytes is one
   one_grammar : {bytes : List ℕ} {g h : Grammar} → bytes ≡ spelling g → Allowed lawful g → bytes ≡ spelling h → Allowed lawful h → g ≡ h
@@ -59,42 +49,33 @@ module _ (lawful : Class → Bool) where
 
 module _ (lawful : Class → Bool) {S : Type 0} where
   due_one : {log : Log S} {call : Call S} {reply other : Reply} → Due lawful log call reply → Due lawful log call other → reply ≡ other
-  due_one (accepted e a c) (accepted f b d) = ap loaded (c ∙ ap counts_of (one_grammar lawful e a f b) ∙ sym d)
+  due_one (accepted e a c) (accepted f b d) = cc (one_grammar lawful e a f b)
   due_one (accepted e a c) (refused r) = absurd (not_both lawful e a r)
   due_one (refused r) (accepted e a c) = absurd (not_both lawful e a r)
   due_one (refused {bytes = bytes} r) (refused s) = ap faulted ((one_verdict lawful bytes).one_fault _ _ r s)
-  due_one (no_book h a) (no_book k b) = ap (λ x. unshown NoBook x) (a ∙ sym b)
-  due_one (no_book h a) (too_short k l b) = absurd (some_none (sym h ∙ k))
-  due_one (no_book h a) (written k l m b) = absurd (some_none (sym h ∙ k))
-  due_one (too_short k l b) (no_book h a) = absurd (some_none (sym h ∙ k))
-  due_one (too_short h l a) (too_short k m b) = ap (λ x. unshown TooShort x) (a ∙ sym b)
-  due_one (too_short {bytes = x} h l a) (written {bytes = y} k m n b) = absurd (omega (arith, ap length (one_force h k)))
-  due_one (written k l m b) (no_book h a) = absurd (some_none (sym h ∙ k))
-  due_one (written {bytes = x} h l m a) (too_short {bytes = y} k n b) = absurd (omega (arith, ap length (one_force h k)))
-  due_one (written {out = out} {after = x} {bytes = u} {n = i} h l m a) (written {after = y} {bytes = v} {n = j} k n o b) =
-      let same : u ≡ v = one_force h k in
-      let size : i ≡ j = m ∙ ap length same ∙ sym o in
-      let bytes : x ≡ y = a ∙ ap (λ z. z ++ drop i out) same ∙ ap (λ z. v ++ drop z out) size ∙ sym b in
-      ap (λ z. shown z x) size ∙ ap (λ z. shown j z) bytes
-  due_one (billed h) (billed k) = ap total (h ∙ sym k)
-  due_one (settled h) (settled k) = ap total (h ∙ sym k)
+  due_one (no_book h a) (no_book k b) = cc
+  due_one (no_book h a) (too_short k l b) = cc
+  due_one (no_book h a) (written k l m b) = cc
+  due_one (too_short k l b) (no_book h a) = cc
+  due_one (too_short h l a) (too_short k m b) = cc
+  due_one (too_short {bytes = x} h l a) (written {bytes = y} k m n b) = let same : x ≡ y = cc in absurd (omega (arith, ap length same))
+  due_one (written k l m b) (no_book h a) = cc
+  due_one (written {bytes = x} h l m a) (too_short {bytes = y} k n b) = let same : x ≡ y = cc in absurd (omega (arith, ap length same))
+  due_one (written h l m a) (written k n o b) = cc
+  due_one (billed h) (billed k) = cc
+  due_one (settled h) (settled k) = cc
 
   due_load : (log : Log S) (bytes : List ℕ) → (((g : Grammar) × Accepts lawful bytes g) ⊎ ((e : BookFault) × Refuses lawful bytes e)) → (reply : Reply) × Due lawful log (load bytes) reply
-  due_load log bytes v =
-      ⊎_elim
-      (λ (a : (g : Grammar) × Accepts lawful bytes g).
-      let s = (accepted_as_spelled lawful bytes a.0).0 a.1 in
-      (loaded (counts_of a.0), accepted s.0 s.1 refl))
-      (λ (r : (e : BookFault) × Refuses lawful bytes e). (faulted r.0, refused r.1))
-      v
+  due_load log bytes (inl (g, a)) = let s = (accepted_as_spelled lawful bytes g).0 a in (loaded (counts_of g), accepted s.0 s.1 refl)
+  due_load log bytes (inr (e, r)) = (faulted e, refused r)
+
+  due_fitting : (log : Log S) (out bytes : List ℕ) → in_force log ≡ Some bytes → (length out < length bytes) ⊎ (length bytes ≤ length out) → (reply : Reply) × Due lawful log (show out) reply
+  due_fitting log out bytes e (inl h) = (unshown TooShort out, too_short e h refl)
+  due_fitting log out bytes e (inr h) = (shown (length bytes) (bytes ++ drop (length bytes) out), written e h refl refl)
 
   due_show : (log : Log S) (out : List ℕ) (force : Option (List ℕ)) → in_force log ≡ force → (reply : Reply) × Due lawful log (show out) reply
   due_show log out None e = (unshown NoBook out, no_book e refl)
-  due_show log out (Some bytes) e =
-      ⊎_elim
-      (λ (h : length out < length bytes). (unshown TooShort out, too_short e h refl))
-      (λ (h : length bytes ≤ length out). (shown (length bytes) (bytes ++ drop (length bytes) out), written e h refl refl))
-      (cases_lt (length out) (length bytes))
+  due_show log out (Some bytes) e = due_fitting log out bytes e (cases_lt (length out) (length bytes))
 
   due_some : (log : Log S) (call : Call S) → (reply : Reply) × Due lawful log call reply
   due_some log (load bytes) = due_load log bytes (one_verdict lawful bytes).some
@@ -107,9 +88,7 @@ module _ (lawful : Class → Bool) {S : Type 0} where
   total_is_owed (settled h) = h
 
   shown_is_in_force : {log : Log S} {out after bytes : List ℕ} {n : ℕ} → in_force log ≡ Some bytes → Due lawful log (show out) (shown n after) → (n ≡ length bytes) × (after ≡ bytes ++ drop (length bytes) out)
-  shown_is_in_force {out = out} {bytes = v} f (written {bytes = u} h l m a) =
-      let same : u ≡ v = one_force h f in
-      (m ∙ ap length same, a ∙ ap (λ z. u ++ drop z out) m ∙ ap (λ z. z ++ drop (length z) out) same)
+  shown_is_in_force f (written h l m a) = (cc, cc)
 
   newest_due : {log : Log S} {call : Call S} {reply : Reply} → Lawful lawful ((call, reply) ∷ log) → Due lawful log call reply
   newest_due (more l d) = d
@@ -120,15 +99,13 @@ module _ (lawful : Class → Bool) {S : Type 0} where
 
   replies_decided : {log other : Log S} → Lawful lawful log → Lawful lawful other → asked log ≡ asked other → log ≡ other
   replies_decided none none e = refl
-  replies_decided none (more l d) e = let n : ◌≡◌ {A = ℕ} 0 1 = cc in absurd (omega arith)
-  replies_decided (more l d) none e = let n : ◌≡◌ {A = ℕ} 0 1 = cc in absurd (omega arith)
+  replies_decided none (more l d) e = cc
+  replies_decided (more l d) none e = cc
   replies_decided (more {call = c} {reply = r} {log = log} l d) (more {call = k} {reply = q} {log = other} m b) e =
-      let calls : c ≡ k = cc in
       let parts : asked log ≡ asked other = cc in
-      let logs : log ≡ other = replies_decided l m parts in
-      let due : Due lawful other k r = subst (λ x. Due lawful other x r) calls (subst (λ x. Due lawful x c r) logs d) in
-      let same : r ≡ q = due_one due b in
-      cc
+      let calls : c ≡ k = cc in
+      let logs = replies_decided l m parts in
+      cc (due_one (rw (calls, logs) at d) b)
 
 pub the_law : (lawful : Class → Bool) (S : Type 0) → Law lawful S
 the_law lawful S = record {

@@ -1,5 +1,5 @@
 -- What it means that requests were served with answers.
-use Rattle.std.specs.Prelude.{◌≡◌, ℕ, Bool, List, [], ◌∷◌, ◌++◌, take, drop}
+use Rattle.std.specs.Prelude.{◌≡◌, ℕ, Bool, List, [], ◌∷◌, ◌++◌, take, drop, Ok, Err}
 use Rattle.kinds.specs.declared.class.Class.{Class}
 use Rattle.station_with_books.specs.declared.state.Station.{Station}
 use Rattle.station_with_books.specs.Law.{Call, load, show, bill, settle, Reply, loaded, faulted, shown, unshown, total, Log, Lawful}
@@ -7,7 +7,7 @@ use Rattle.station_with_books.specs.Stand.{Keeps}
 use Rattle.station_with_books.specs.declared.request.Request.{Request}
 use Rattle.station_with_books.specs.declared.request.Request.TheVariants.{Load, Show, Bill, Settle}
 use Rattle.station_with_books.specs.declared.request.Answer.{Answer}
-use Rattle.station_with_books.specs.declared.request.Answer.TheVariants.{Loaded, Refused, Shown, NotShown, Total}
+use Rattle.station_with_books.specs.declared.request.Answer.TheVariants.{Loaded, Shown, Total}
 
 -- The call that a request makes, where the lent buffer is `out`.
 abbrev pub call_of : {S : Type 0} → List ℕ → Request → Call S
@@ -18,10 +18,10 @@ call_of out Settle = settle
 
 -- What is answered for a reply.
 abbrev pub answer_of : Reply → Answer
-answer_of (loaded counts) = Loaded counts
-answer_of (faulted fault) = Refused fault
-answer_of (shown n after) = Shown n
-answer_of (unshown refusal after) = NotShown refusal
+answer_of (loaded counts) = Loaded (Ok counts)
+answer_of (faulted fault) = Loaded (Err fault)
+answer_of (shown n after) = Shown (Ok n)
+answer_of (unshown refusal after) = Shown (Err refusal)
 answer_of (total n) = Total n
 
 -- The lent buffer after a request and its reply: show has had the front of it.

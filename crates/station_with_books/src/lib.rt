@@ -8,7 +8,6 @@
 #![tactic(auto)]
 
 mod answers;
-mod refusals;
 mod request;
 mod serving;
 mod state;

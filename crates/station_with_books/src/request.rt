@@ -2,7 +2,7 @@ use crate::answers::{Counts, ShowRefusal};
 use books::BookFault;
 
 /// A call, as a value.
-#[derive(Clone, Copy)]
+#[derive(Clone, Copy, PartialEq, Eq, Debug)]
 pub enum Request<'a> {
     /// Load these bytes.
     Load(&'a [u8]),
@@ -15,14 +15,10 @@ pub enum Request<'a> {
 /// A reply, as a value.
 #[derive(Clone, Copy, PartialEq, Eq, Debug)]
 pub enum Answer {
-    /// The counts of the book that was loaded.
-    Loaded(Counts),
-    /// What is wrong with the book.
-    Refused(BookFault),
-    /// How many bytes the book was shown in.
-    Shown(usize),
-    /// Why it was not shown.
-    NotShown(ShowRefusal),
+    /// The counts of the book that was loaded, or what is wrong with it.
+    Loaded(Result<Counts, BookFault>),
+    /// How many bytes the book was shown in, or why it was not.
+    Shown(Result<usize, ShowRefusal>),
     /// The steps on the bill, of `Bill` and `Settle`.
     Total(u64),
 }

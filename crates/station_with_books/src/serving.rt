@@ -12,6 +12,7 @@ use kinds::Kind;
 /// answers; answers how many were run. These calls with these replies are a lawful log, and the law
 /// over lawful logs holds. Books are shown in the buffer `out`, one after another. Answers past
 /// those stay as they were.
+#[tactic(auto, using(crate::proofs::Serves::serving_none))]
 pub fn serve<K: Kind + Drop>(
     kind: K,
     requests: &[Request<'_>],
@@ -24,28 +25,26 @@ pub fn serve<K: Kind + Drop>(
     ensures law { Law (K.Kind.lawful kind) K.Symbol }
 {
     let mut station = Station::new(kind);
-    let count = requests.len().min(answers.len());
-    for i in 0..count {
-        answers[i] = ask(&mut station, requests[i], out);
+    // Not by `zip`: of what is written through it the prover keeps only the length.
+    for (i, answer) in answers.iter_mut().enumerate() {
+        let Some(request) = requests.get(i) else {
+            return i;
+        };
+        *answer = ask(&mut station, *request, out);
     }
-    count
+    answers.len()
 }
 
 // One request.
+#[tactic(auto, using(crate::proofs::Asks::asked_load, crate::proofs::Asks::asked_show, crate::proofs::Asks::asked_bill, crate::proofs::Asks::asked_settle))]
 fn ask<K: Kind>(station: &mut Station<K>, request: Request<'_>, out: &mut [u8]) -> Answer
     ensures { Asked K.Symbol K.Kind.lawful station.old out.old request.entry result station.new out.new }
 {
     match request {
-        Request::Load(bytes) => match station.load(bytes) {
-            Ok(counts) => Answer::Loaded(counts),
-            Err(fault) => Answer::Refused(fault),
-        },
+        Request::Load(bytes) => Answer::Loaded(station.load(bytes)),
         Request::Show(length) => {
             let length = length.min(out.len());
-            match station.show(&mut out[..length]) {
-                Ok(count) => Answer::Shown(count),
-                Err(refusal) => Answer::NotShown(refusal),
-            }
+            Answer::Shown(station.show(&mut out[..length]))
         }
         Request::Bill => Answer::Total(station.bill()),
         Request::Settle => Answer::Total(station.settle()),

@@ -2,7 +2,7 @@ use crate::answers::{Counts, ShowRefusal};
 use crate::request::{Answer, Request};
 use crate::serving::serve;
 use crate::state::Station;
-use books::BookFault;
+use books::{BookFault, read_book};
 use kinds::{ByteKind, CommandKind};
 use tokens::Spot;
 
@@ -12,6 +12,12 @@ const SUMS: &[u8] =
 
 // A book of 1 rule in 13 bytes.
 const ANY: &[u8] = b"(rule (any))\n";
+
+const ANY_COUNTS: Counts = Counts {
+    classes: 0,
+    rules: 1,
+    expressions: 1,
+};
 
 // A book with a loop.
 const LOOP: &[u8] = b"(rule (star (empty)))\n";
@@ -37,14 +43,13 @@ fn load_answers_the_counts(rt: HostRuntime) {
             expressions: 7,
         })
     );
-    assert_eq!(rt;
-        station.load(ANY),
-        Ok(Counts {
-            classes: 0,
-            rules: 1,
-            expressions: 1,
-        })
-    );
+    assert_eq!(rt; station.load(ANY), Ok(ANY_COUNTS));
+}
+
+#[test]
+fn counts_are_made_from_a_book(rt: HostRuntime) {
+    let counts = read_book(&ByteKind, ANY).map(|book| Counts::from(&book));
+    assert_eq!(rt; counts, Ok(ANY_COUNTS));
 }
 
 #[test]
@@ -83,14 +88,7 @@ fn show_needs_a_book(rt: HostRuntime) {
 #[test]
 fn show_writes_the_book_and_no_more(rt: HostRuntime) {
     let mut station = Station::new(ByteKind);
-    assert_eq!(rt;
-        station.load(ANY),
-        Ok(Counts {
-            classes: 0,
-            rules: 1,
-            expressions: 1,
-        })
-    );
+    assert_eq!(rt; station.load(ANY), Ok(ANY_COUNTS));
     let mut exact = [7u8; 13];
     assert_eq!(rt; station.show(&mut exact), Ok(13));
     assert_eq!(rt; exact, *b"(rule (any))\n");
@@ -105,14 +103,7 @@ fn show_writes_the_book_and_no_more(rt: HostRuntime) {
 #[test]
 fn a_refused_load_leaves_the_book(rt: HostRuntime) {
     let mut station = Station::new(ByteKind);
-    assert_eq!(rt;
-        station.load(ANY),
-        Ok(Counts {
-            classes: 0,
-            rules: 1,
-            expressions: 1,
-        })
-    );
+    assert_eq!(rt; station.load(ANY), Ok(ANY_COUNTS));
     assert_eq!(rt; station.load(LOOP), Err(LOOP_FAULT));
     let mut out = [0u8; 13];
     assert_eq!(rt; station.show(&mut out), Ok(13));
@@ -123,6 +114,13 @@ fn a_refused_load_leaves_the_book(rt: HostRuntime) {
 fn refusals_have_their_numbers(rt: HostRuntime) {
     assert_eq!(rt; ShowRefusal::NoBook.number(), 10);
     assert_eq!(rt; ShowRefusal::TooShort.number(), 15);
+}
+
+#[test]
+fn requests_are_compared_by_their_bytes(rt: HostRuntime) {
+    assert_eq!(rt; Request::Load(ANY), Request::Load(b"(rule (any))\n"));
+    assert_ne!(rt; Request::Load(ANY), Request::Load(LOOP));
+    assert_ne!(rt; Request::Show(12), Request::Show(13));
 }
 
 #[test]
@@ -140,15 +138,11 @@ fn serve_runs_every_call(rt: HostRuntime) {
     let mut answers = [Answer::Total(9); 7];
     assert_eq!(rt; serve(ByteKind, &requests, &mut out, &mut answers), 7);
     let due = [
-        Answer::NotShown(ShowRefusal::NoBook),
-        Answer::Refused(LOOP_FAULT),
-        Answer::Loaded(Counts {
-            classes: 0,
-            rules: 1,
-            expressions: 1,
-        }),
-        Answer::NotShown(ShowRefusal::TooShort),
-        Answer::Shown(13),
+        Answer::Shown(Err(ShowRefusal::NoBook)),
+        Answer::Loaded(Err(LOOP_FAULT)),
+        Answer::Loaded(Ok(ANY_COUNTS)),
+        Answer::Shown(Err(ShowRefusal::TooShort)),
+        Answer::Shown(Ok(13)),
         Answer::Total(0),
         Answer::Total(0),
     ];
