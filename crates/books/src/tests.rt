@@ -1,8 +1,7 @@
-ghost use Rattle.std.specs.Prelude.{◌≡◌, ◌≤◌, length};
-
 use crate::book::{MOST_BYTES, read_book};
 use crate::fault::{BookFault, ExprFault, Layer};
 use kinds::{ByteKind, CommandKind, Kind};
+use std::alloc::{AllocError, Global};
 use std::process::Abort;
 use tokens::{Spot, TokenFault};
 
@@ -49,45 +48,37 @@ fn in_book(rt: &impl Abort, bytes: &[u8], number: u8, place: usize, line: usize)
     );
 }
 
-// A book while it is written, in fixed memory, with room for one byte more than it may have.
+// A book while it is written.
 #[derive(Drop)]
 struct Draft {
-    bytes: [u8; 32_769],
-    count: usize,
-    ghost within: { (length bytes ≡ 32769) × (count ≤ 32769) },
+    text: Vec<u8>,
 }
 
 impl Draft {
-    fn new() -> Draft {
+    fn new(heap: Global) -> Draft {
         Draft {
-            bytes: [0; 32_769],
-            count: 0,
+            text: Vec::new(heap),
         }
     }
 
-    // Writes the same bytes so many times, as far as there is room.
-    fn write(&mut self, times: usize, bytes: &[u8]) {
+    // Writes the same bytes so many times.
+    fn write(&mut self, times: usize, bytes: &[u8]) -> Result<(), AllocError> {
         for _ in 0..times {
-            let fits = bytes.len().min(self.bytes.len() - self.count);
-            let end = self.count + fits;
-            self.bytes[self.count..end].copy_from_slice(&bytes[..fits]);
-            self.count = end;
+            self.text.extend_from_slice(bytes)?;
         }
+        Ok(())
     }
 
     // Writes rules, each of an `any` under so many `not`s.
-    fn rules(&mut self, times: usize, nots: usize) {
+    fn rules(&mut self, times: usize, nots: usize) -> Result<(), AllocError> {
         for _ in 0..times {
-            self.write(1, b"(rule");
-            self.write(nots, b" (not");
-            self.write(1, b" (any)");
-            self.write(nots, b")");
-            self.write(1, b")\n");
+            self.write(1, b"(rule")?;
+            self.write(nots, b" (not")?;
+            self.write(1, b" (any)")?;
+            self.write(nots, b")")?;
+            self.write(1, b")\n")?;
         }
-    }
-
-    fn text(&self) -> &[u8] {
-        &self.bytes[..self.count]
+        Ok(())
     }
 }
 
@@ -141,13 +132,14 @@ fn a_token_that_is_not_wanted(rt: HostRuntime) {
 }
 
 #[test]
-fn a_class_after_a_rule(rt: HostRuntime) {
+fn a_class_after_a_rule(rt: HostRuntime) -> Result<(), AllocError> {
     in_expressions(&rt, b"(rule (any))\n(class 0 0)\n", 4, 14, 2);
     // also where one more rule would be too many
-    let mut draft = Draft::new();
-    draft.rules(32, 0);
-    draft.write(1, b"(class 0 0)\n");
-    in_expressions(&rt, draft.text(), 4, 417, 33);
+    let mut draft = Draft::new(rt.alloc());
+    draft.rules(32, 0)?;
+    draft.write(1, b"(class 0 0)\n")?;
+    in_expressions(&rt, draft.text.as_slice(), 4, 417, 33);
+    Ok(())
 }
 
 #[test]
@@ -190,106 +182,112 @@ fn a_bad_number_where_none_is_wanted(rt: HostRuntime) {
 }
 
 #[test]
-fn a_book_has_at_most_64_classes(rt: HostRuntime) {
-    let mut draft = Draft::new();
-    draft.write(64, b"(class 0 0)\n");
-    let full = draft.count;
-    draft.rules(1, 0);
-    reads(&rt, draft.text(), 64, 1, 1);
-    draft.count = full;
-    draft.write(1, b"(class 0 0)\n(rule (any))\n");
-    in_book(&rt, draft.text(), 5, 768, 65);
+fn a_book_has_at_most_64_classes(rt: HostRuntime) -> Result<(), AllocError> {
+    let mut draft = Draft::new(rt.alloc());
+    draft.write(64, b"(class 0 0)\n")?;
+    let full = draft.text.len();
+    draft.rules(1, 0)?;
+    reads(&rt, draft.text.as_slice(), 64, 1, 1);
+    draft.text.truncate(full);
+    draft.write(1, b"(class 0 0)\n(rule (any))\n")?;
+    in_book(&rt, draft.text.as_slice(), 5, 768, 65);
     // at the word: before its numbers are looked at, and after another word
-    draft.count = full;
-    draft.write(1, b"(class 1 00");
-    in_book(&rt, draft.text(), 5, 768, 65);
-    draft.count = full;
-    draft.write(1, b"(any)\n");
-    in_expressions(&rt, draft.text(), 4, 769, 65);
+    draft.text.truncate(full);
+    draft.write(1, b"(class 1 00")?;
+    in_book(&rt, draft.text.as_slice(), 5, 768, 65);
+    draft.text.truncate(full);
+    draft.write(1, b"(any)\n")?;
+    in_expressions(&rt, draft.text.as_slice(), 4, 769, 65);
+    Ok(())
 }
 
 #[test]
-fn a_book_has_at_most_32_rules(rt: HostRuntime) {
-    let mut draft = Draft::new();
-    draft.rules(32, 0);
-    let full = draft.count;
-    reads(&rt, draft.text(), 0, 32, 32);
-    draft.rules(1, 0);
-    in_book(&rt, draft.text(), 5, 416, 33);
-    draft.count = full;
-    draft.write(1, b"(rule\x80");
-    in_book(&rt, draft.text(), 5, 416, 33);
-    draft.count = full;
-    draft.write(1, b"(rul");
-    in_expressions(&rt, draft.text(), 4, 417, 33);
+fn a_book_has_at_most_32_rules(rt: HostRuntime) -> Result<(), AllocError> {
+    let mut draft = Draft::new(rt.alloc());
+    draft.rules(32, 0)?;
+    let full = draft.text.len();
+    reads(&rt, draft.text.as_slice(), 0, 32, 32);
+    draft.rules(1, 0)?;
+    in_book(&rt, draft.text.as_slice(), 5, 416, 33);
+    draft.text.truncate(full);
+    draft.write(1, b"(rule\x80")?;
+    in_book(&rt, draft.text.as_slice(), 5, 416, 33);
+    draft.text.truncate(full);
+    draft.write(1, b"(rul")?;
+    in_expressions(&rt, draft.text.as_slice(), 4, 417, 33);
+    Ok(())
 }
 
 #[test]
-fn a_book_has_at_most_512_expressions(rt: HostRuntime) {
+fn a_book_has_at_most_512_expressions(rt: HostRuntime) -> Result<(), AllocError> {
     // 31 rules of 16 expressions, each in 103 bytes
-    let mut draft = Draft::new();
-    draft.rules(31, 15);
-    let most = draft.count;
-    draft.rules(1, 15);
-    reads(&rt, draft.text(), 0, 32, 512);
-    draft.count = most;
-    draft.rules(1, 16);
-    in_book(&rt, draft.text(), 5, 3279, 32);
+    let mut draft = Draft::new(rt.alloc());
+    draft.rules(31, 15)?;
+    let most = draft.text.len();
+    draft.rules(1, 15)?;
+    reads(&rt, draft.text.as_slice(), 0, 32, 512);
+    draft.text.truncate(most);
+    draft.rules(1, 16)?;
+    in_book(&rt, draft.text.as_slice(), 5, 3279, 32);
     // at the word: before what comes after it, and not for another word
-    draft.count = most;
-    draft.write(1, b"(rule");
-    draft.write(16, b" (not");
-    let full = draft.count;
-    draft.write(1, b" (term\x80");
-    in_book(&rt, draft.text(), 5, 3279, 32);
-    draft.count = full;
-    draft.write(1, b" (terms");
-    in_expressions(&rt, draft.text(), 4, 3280, 32);
-    draft.count = full;
-    draft.write(1, b" (class");
-    in_expressions(&rt, draft.text(), 4, 3280, 32);
+    draft.text.truncate(most);
+    draft.write(1, b"(rule")?;
+    draft.write(16, b" (not")?;
+    let full = draft.text.len();
+    draft.write(1, b" (term\x80")?;
+    in_book(&rt, draft.text.as_slice(), 5, 3279, 32);
+    draft.text.truncate(full);
+    draft.write(1, b" (terms")?;
+    in_expressions(&rt, draft.text.as_slice(), 4, 3280, 32);
+    draft.text.truncate(full);
+    draft.write(1, b" (class")?;
+    in_expressions(&rt, draft.text.as_slice(), 4, 3280, 32);
+    Ok(())
 }
 
 #[test]
-fn expressions_are_nested_at_most_64_deep(rt: HostRuntime) {
-    let mut draft = Draft::new();
-    draft.rules(1, 63);
-    reads(&rt, draft.text(), 0, 1, 64);
-    draft.rules(1, 64);
+fn expressions_are_nested_at_most_64_deep(rt: HostRuntime) -> Result<(), AllocError> {
+    let mut draft = Draft::new(rt.alloc());
+    draft.rules(1, 63)?;
+    reads(&rt, draft.text.as_slice(), 0, 1, 64);
+    draft.rules(1, 64)?;
     // the second line begins at 391
-    in_expressions(&rt, draft.text(), 6, 717, 2);
+    in_expressions(&rt, draft.text.as_slice(), 6, 717, 2);
     // a word that is not wanted is found before
-    draft.count = 0;
-    draft.write(1, b"(rule");
-    draft.write(64, b" (not");
-    draft.write(1, b" (class");
-    in_expressions(&rt, draft.text(), 4, 327, 1);
+    draft.text.truncate(0);
+    draft.write(1, b"(rule")?;
+    draft.write(64, b" (not")?;
+    draft.write(1, b" (class")?;
+    in_expressions(&rt, draft.text.as_slice(), 4, 327, 1);
+    Ok(())
 }
 
 #[test]
-fn an_expression_too_many_and_too_deep(rt: HostRuntime) {
+fn an_expression_too_many_and_too_deep(rt: HostRuntime) -> Result<(), AllocError> {
     // 448 expressions in 7 rules, each in 391 bytes; then 64, each in the one before
-    let mut draft = Draft::new();
-    draft.rules(7, 63);
-    draft.rules(1, 64);
-    in_book(&rt, draft.text(), 5, 3063, 8);
+    let mut draft = Draft::new(rt.alloc());
+    draft.rules(7, 63)?;
+    draft.rules(1, 64)?;
+    in_book(&rt, draft.text.as_slice(), 5, 3063, 8);
+    Ok(())
 }
 
 #[test]
-fn a_book_has_at_most_32768_bytes(rt: HostRuntime) {
+fn a_book_has_at_most_32768_bytes(rt: HostRuntime) -> Result<(), AllocError> {
     assert_eq!(rt; MOST_BYTES, 32_768);
     // a book within the other limits is far shorter, so only the fault tells
-    let mut draft = Draft::new();
-    draft.write(32_768, b"(");
-    in_expressions(&rt, draft.text(), 4, 1, 1);
-    draft.write(1, b"(");
-    in_book(&rt, draft.text(), 1, 0, 1);
-    draft.count = 0;
-    draft.write(1, b"(rule (any))\n");
-    draft.write(32_755, b"\n");
-    in_expressions(&rt, draft.text(), 4, 13, 2);
-    draft.write(1, b"\n");
-    in_book(&rt, draft.text(), 1, 0, 1);
+    let mut draft = Draft::new(rt.alloc());
+    draft.write(32_768, b"(")?;
+    in_expressions(&rt, draft.text.as_slice(), 4, 1, 1);
+    draft.write(1, b"(")?;
+    in_book(&rt, draft.text.as_slice(), 1, 0, 1);
+    draft.text.truncate(0);
+    draft.write(1, b"(rule (any))\n")?;
+    draft.write(32_755, b"\n")?;
+    in_expressions(&rt, draft.text.as_slice(), 4, 13, 2);
+    draft.write(1, b"\n")?;
+    in_book(&rt, draft.text.as_slice(), 1, 0, 1);
+    Ok(())
 }
 
 #[test]

@@ -62,8 +62,8 @@ impl<R: Copy> Stack<'_, R> {
         }
     }
 
-    #[tactic(auto, using(crate::proofs::Tops::taken_last))]
     /// Takes the top off, if a record is held. The slice stays as it is.
+    #[tactic(auto, using(crate::proofs::Tops::taken_last))]
     pub fn pop(&mut self) -> Option<R>
         ensures top { result ≡ last (held self.old) }
         ensures held { held self.new ≡ front (held self.old) }
