@@ -1,5 +1,5 @@
 -- A request that was asked and answered keeps the promise of its call.
-use Rattle.std.proofs.Common.{◌≡◌, ℕ, Bool, List, ◌++◌, length, min, take, drop, Ok, Err, Result, refl}
+use Rattle.std.proofs.Common.{◌≡◌, ℕ, Bool, List, ◌++◌, length, min, take, drop, Ok, Err, Result, Bor, refl}
 use Rattle.std.proofs.lemmas.List.{take_min, drop_min}
 use Rattle.kinds.specs.declared.class.Class.{Class}
 use Rattle.books.specs.declared.fault.BookFault.{BookFault}
@@ -14,7 +14,7 @@ use Rattle.station_with_books.specs.Stand.{Keeps, load_reply, show_reply}
 use Rattle.station_with_books.specs.Served.{Asked}
 
 module _ {K S : Type 0} (lawful : K → Class → Bool) {before after : Station K} {out : List ℕ} {request : Request} where
-  pub asked_load : (bytes : _) (r : Result Counts BookFault) → request ≡ Load bytes → Keeps {S = S} lawful before (load bytes.now) (load_reply r) after → Asked S lawful before out request (Loaded r) after out
+  pub asked_load : (bytes : Bor (List ℕ)) (r : Result Counts BookFault) → request ≡ Load bytes → Keeps {S = S} lawful before (load bytes.now) (load_reply r) after → Asked S lawful before out request (Loaded r) after out
   asked_load bytes (Ok counts) e keeps = rw e (record { reply = _; keeps = keeps; answer_is = refl; out_is = refl })
   asked_load bytes (Err fault) e keeps = rw e (record { reply = _; keeps = keeps; answer_is = refl; out_is = refl })
 

@@ -1,7 +1,5 @@
 ghost use Rattle.std.specs.Prelude.{◌≡◌, min, length, take, drop};
-ghost use Rattle.station_with_books.specs.Law.{Reply};
 ghost use Rattle.station_with_books.specs.Whole.{Law};
-ghost use Rattle.station_with_books.specs.Stand.{Keeps};
 ghost use Rattle.station_with_books.specs.Served.{Asked, Served};
 
 use crate::request::{Answer, Request};

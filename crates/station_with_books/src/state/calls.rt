@@ -1,4 +1,4 @@
-ghost use Rattle.std.specs.Prelude.{◌≡◌, [], None, MatchResult};
+ghost use Rattle.std.specs.Prelude.{◌≡◌, [], None};
 ghost use Rattle.station_with_books.specs.declared.state.Station.{Station};
 ghost use Rattle.station_with_books.specs.Law.{load, show, bill, settle, total, Log, Lawful};
 ghost use Rattle.station_with_books.specs.Whole.{Law};
@@ -12,6 +12,7 @@ use kinds::Kind;
 use std::mem;
 use writing::write_book;
 
+// Each clause `keeps` names its own call and reply, so no invariant of the station can say it for all.
 impl<K: Kind> Station<K> {
     /// A station for this kind, with no book, nothing on the bill and no reads counted.
     ///
