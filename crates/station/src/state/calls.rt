@@ -6,6 +6,7 @@ ghost use Rattle.station.specs.Stand.{Stands, Keeps, Linked};
 
 use crate::state::Station;
 use kinds::Kind;
+use std::mem;
 
 impl<K: Kind> Station<K> {
     /// A station for this kind, with no book, nothing on the bill and no reads counted.
@@ -41,9 +42,7 @@ impl<K: Kind> Station<K> {
         ensures sum { result ≡ self.old.sum }
         ensures anew { (self.new.kind ≡ self.old.kind) × (self.new.sum ≡ 0) × (self.new.reads ≡ 0) }
     {
-        let sum = self.sum;
-        self.sum = 0;
         self.reads = 0;
-        sum
+        mem::take(&mut self.sum)
     }
 }
