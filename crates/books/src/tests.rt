@@ -1,4 +1,5 @@
 use crate::book::{MOST_BYTES, read_book};
+use crate::fault::Layer::{Book, Expressions, Tokens};
 use crate::fault::{BookFault, ExprFault, Layer};
 use kinds::{ByteKind, CommandKind, Kind};
 use std::alloc::{AllocError, Global};
@@ -24,28 +25,9 @@ fn reads(rt: &impl Abort, bytes: &[u8], classes: usize, rules: usize, expression
     assert_eq!(rt; answer(&ByteKind, bytes), Ok((classes, rules, expressions)));
 }
 
-// Whether the lexer finds this fault in a book of bytes.
-fn in_tokens(rt: &impl Abort, bytes: &[u8], number: u8, place: usize, line: usize) {
-    assert_eq!(rt;
-        answer(&ByteKind, bytes),
-        Err((number, Layer::Tokens, place, line))
-    );
-}
-
-// Whether the reader of expressions finds this fault in a book of bytes.
-fn in_expressions(rt: &impl Abort, bytes: &[u8], number: u8, place: usize, line: usize) {
-    assert_eq!(rt;
-        answer(&ByteKind, bytes),
-        Err((number, Layer::Expressions, place, line))
-    );
-}
-
-// Whether the reader of the book finds this fault in a book of bytes.
-fn in_book(rt: &impl Abort, bytes: &[u8], number: u8, place: usize, line: usize) {
-    assert_eq!(rt;
-        answer(&ByteKind, bytes),
-        Err((number, Layer::Book, place, line))
-    );
+// Whether this layer of the reader finds this fault in a book of bytes.
+fn refused(rt: &impl Abort, layer: Layer, bytes: &[u8], number: u8, place: usize, line: usize) {
+    assert_eq!(rt; answer(&ByteKind, bytes), Err((number, layer, place, line)));
 }
 
 // A book while it is written.
@@ -103,61 +85,61 @@ fn small_books(rt: HostRuntime) {
 
 #[test]
 fn a_book_that_stops_early(rt: HostRuntime) {
-    in_expressions(&rt, b"", 4, 0, 1);
-    in_expressions(&rt, b"(", 4, 1, 1);
-    in_expressions(&rt, b"(class 0 0)\n", 4, 12, 2);
-    in_expressions(&rt, b"(class 0 0)", 4, 11, 1);
-    in_expressions(&rt, b"(rule (any))", 4, 12, 1);
-    in_expressions(&rt, b"(rule (any))\n(rule", 4, 18, 2);
-    in_expressions(&rt, b"(rule (term ", 4, 12, 1);
+    refused(&rt, Expressions, b"", 4, 0, 1);
+    refused(&rt, Expressions, b"(", 4, 1, 1);
+    refused(&rt, Expressions, b"(class 0 0)\n", 4, 12, 2);
+    refused(&rt, Expressions, b"(class 0 0)", 4, 11, 1);
+    refused(&rt, Expressions, b"(rule (any))", 4, 12, 1);
+    refused(&rt, Expressions, b"(rule (any))\n(rule", 4, 18, 2);
+    refused(&rt, Expressions, b"(rule (term ", 4, 12, 1);
 }
 
 #[test]
 fn a_token_that_is_not_wanted(rt: HostRuntime) {
-    in_expressions(&rt, b"rule (any))\n", 4, 0, 1);
-    in_expressions(&rt, b"(any)\n", 4, 1, 1);
-    in_expressions(&rt, b"(rules (any))\n", 4, 1, 1);
-    in_expressions(&rt, b"(rule  (any))\n", 4, 6, 1);
-    in_expressions(&rt, b"(rule (any) )\n", 4, 11, 1);
-    in_expressions(&rt, b"(rule (rule (any)))\n", 4, 7, 1);
-    in_expressions(&rt, b"(rule (alt (any)))\n", 4, 16, 1);
-    in_expressions(&rt, b"(rule (star (any) (any)))\n", 4, 17, 1);
-    in_expressions(&rt, b"(rule (term any))\n", 4, 12, 1);
-    in_expressions(&rt, b"(rule (any 1))\n", 4, 10, 1);
-    in_expressions(&rt, b"(class 1)\n(rule (any))\n", 4, 8, 1);
+    refused(&rt, Expressions, b"rule (any))\n", 4, 0, 1);
+    refused(&rt, Expressions, b"(any)\n", 4, 1, 1);
+    refused(&rt, Expressions, b"(rules (any))\n", 4, 1, 1);
+    refused(&rt, Expressions, b"(rule  (any))\n", 4, 6, 1);
+    refused(&rt, Expressions, b"(rule (any) )\n", 4, 11, 1);
+    refused(&rt, Expressions, b"(rule (rule (any)))\n", 4, 7, 1);
+    refused(&rt, Expressions, b"(rule (alt (any)))\n", 4, 16, 1);
+    refused(&rt, Expressions, b"(rule (star (any) (any)))\n", 4, 17, 1);
+    refused(&rt, Expressions, b"(rule (term any))\n", 4, 12, 1);
+    refused(&rt, Expressions, b"(rule (any 1))\n", 4, 10, 1);
+    refused(&rt, Expressions, b"(class 1)\n(rule (any))\n", 4, 8, 1);
     // an empty line, and lines past the end
-    in_expressions(&rt, b"(class 0 0)\n\n(rule (any))\n", 4, 12, 2);
-    in_expressions(&rt, b"(rule (any))\n\n", 4, 13, 2);
-    in_expressions(&rt, b"(rule (any))\n)", 4, 13, 2);
+    refused(&rt, Expressions, b"(class 0 0)\n\n(rule (any))\n", 4, 12, 2);
+    refused(&rt, Expressions, b"(rule (any))\n\n", 4, 13, 2);
+    refused(&rt, Expressions, b"(rule (any))\n)", 4, 13, 2);
 }
 
 #[test]
 fn a_class_after_a_rule(rt: HostRuntime) -> Result<(), AllocError> {
-    in_expressions(&rt, b"(rule (any))\n(class 0 0)\n", 4, 14, 2);
+    refused(&rt, Expressions, b"(rule (any))\n(class 0 0)\n", 4, 14, 2);
     // also where one more rule would be too many
     let mut draft = Draft::new(rt.alloc());
     draft.rules(32, 0)?;
     draft.write(1, b"(class 0 0)\n")?;
-    in_expressions(&rt, draft.text.as_slice(), 4, 417, 33);
+    refused(&rt, Expressions, draft.text.as_slice(), 4, 417, 33);
     Ok(())
 }
 
 #[test]
 fn a_byte_that_begins_no_token(rt: HostRuntime) {
-    in_tokens(&rt, b"\x80", 2, 0, 1);
-    in_tokens(&rt, b"(rule (any))\r\n", 2, 12, 1);
-    in_tokens(&rt, b"(class 0 0)\n(rule (Any))\n", 2, 19, 2);
-    in_tokens(&rt, b"(rule (any))\n\xff", 2, 13, 2);
+    refused(&rt, Tokens, b"\x80", 2, 0, 1);
+    refused(&rt, Tokens, b"(rule (any))\r\n", 2, 12, 1);
+    refused(&rt, Tokens, b"(class 0 0)\n(rule (Any))\n", 2, 19, 2);
+    refused(&rt, Tokens, b"(rule (any))\n\xff", 2, 13, 2);
 }
 
 #[test]
 fn numbers_at_their_edges(rt: HostRuntime) {
     reads(&rt, b"(class 0 0)\n(rule (term 0))\n", 1, 1, 1);
-    in_tokens(&rt, b"(class 0 00)\n(rule (term 0))\n", 3, 9, 1);
-    in_tokens(&rt, b"(class 0 0)\n(rule (term 00))\n", 3, 24, 2);
-    in_tokens(&rt, b"(class 0 0)\n(rule (term 01))\n", 3, 24, 2);
-    in_book(&rt, b"(rule (call 4294967295))\n", 8, 6, 1);
-    in_tokens(&rt, b"(rule (call 4294967296))\n", 3, 12, 1);
+    refused(&rt, Tokens, b"(class 0 00)\n(rule (term 0))\n", 3, 9, 1);
+    refused(&rt, Tokens, b"(class 0 0)\n(rule (term 00))\n", 3, 24, 2);
+    refused(&rt, Tokens, b"(class 0 0)\n(rule (term 01))\n", 3, 24, 2);
+    refused(&rt, Book, b"(rule (call 4294967295))\n", 8, 6, 1);
+    refused(&rt, Tokens, b"(rule (call 4294967296))\n", 3, 12, 1);
     assert_eq!(rt;
         answer(
             &CommandKind,
@@ -170,15 +152,15 @@ fn numbers_at_their_edges(rt: HostRuntime) {
             &CommandKind,
             b"(class 4294967295 4294967296)\n(rule (term 0))\n",
         ),
-        Err((3, Layer::Tokens, 18, 1))
+        Err((3, Tokens, 18, 1))
     );
 }
 
 #[test]
 fn a_bad_number_where_none_is_wanted(rt: HostRuntime) {
-    in_tokens(&rt, b"(rule 00", 3, 6, 1);
-    in_expressions(&rt, b"(rule 0", 4, 6, 1);
-    in_tokens(&rt, b"(class 0 0)\n007", 3, 12, 2);
+    refused(&rt, Tokens, b"(rule 00", 3, 6, 1);
+    refused(&rt, Expressions, b"(rule 0", 4, 6, 1);
+    refused(&rt, Tokens, b"(class 0 0)\n007", 3, 12, 2);
 }
 
 #[test]
@@ -190,14 +172,14 @@ fn a_book_has_at_most_64_classes(rt: HostRuntime) -> Result<(), AllocError> {
     reads(&rt, draft.text.as_slice(), 64, 1, 1);
     draft.text.truncate(full);
     draft.write(1, b"(class 0 0)\n(rule (any))\n")?;
-    in_book(&rt, draft.text.as_slice(), 5, 768, 65);
+    refused(&rt, Book, draft.text.as_slice(), 5, 768, 65);
     // at the word: before its numbers are looked at, and after another word
     draft.text.truncate(full);
     draft.write(1, b"(class 1 00")?;
-    in_book(&rt, draft.text.as_slice(), 5, 768, 65);
+    refused(&rt, Book, draft.text.as_slice(), 5, 768, 65);
     draft.text.truncate(full);
     draft.write(1, b"(any)\n")?;
-    in_expressions(&rt, draft.text.as_slice(), 4, 769, 65);
+    refused(&rt, Expressions, draft.text.as_slice(), 4, 769, 65);
     Ok(())
 }
 
@@ -208,13 +190,13 @@ fn a_book_has_at_most_32_rules(rt: HostRuntime) -> Result<(), AllocError> {
     let full = draft.text.len();
     reads(&rt, draft.text.as_slice(), 0, 32, 32);
     draft.rules(1, 0)?;
-    in_book(&rt, draft.text.as_slice(), 5, 416, 33);
+    refused(&rt, Book, draft.text.as_slice(), 5, 416, 33);
     draft.text.truncate(full);
     draft.write(1, b"(rule\x80")?;
-    in_book(&rt, draft.text.as_slice(), 5, 416, 33);
+    refused(&rt, Book, draft.text.as_slice(), 5, 416, 33);
     draft.text.truncate(full);
     draft.write(1, b"(rul")?;
-    in_expressions(&rt, draft.text.as_slice(), 4, 417, 33);
+    refused(&rt, Expressions, draft.text.as_slice(), 4, 417, 33);
     Ok(())
 }
 
@@ -228,20 +210,20 @@ fn a_book_has_at_most_512_expressions(rt: HostRuntime) -> Result<(), AllocError>
     reads(&rt, draft.text.as_slice(), 0, 32, 512);
     draft.text.truncate(most);
     draft.rules(1, 16)?;
-    in_book(&rt, draft.text.as_slice(), 5, 3279, 32);
+    refused(&rt, Book, draft.text.as_slice(), 5, 3279, 32);
     // at the word: before what comes after it, and not for another word
     draft.text.truncate(most);
     draft.write(1, b"(rule")?;
     draft.write(16, b" (not")?;
     let full = draft.text.len();
     draft.write(1, b" (term\x80")?;
-    in_book(&rt, draft.text.as_slice(), 5, 3279, 32);
+    refused(&rt, Book, draft.text.as_slice(), 5, 3279, 32);
     draft.text.truncate(full);
     draft.write(1, b" (terms")?;
-    in_expressions(&rt, draft.text.as_slice(), 4, 3280, 32);
+    refused(&rt, Expressions, draft.text.as_slice(), 4, 3280, 32);
     draft.text.truncate(full);
     draft.write(1, b" (class")?;
-    in_expressions(&rt, draft.text.as_slice(), 4, 3280, 32);
+    refused(&rt, Expressions, draft.text.as_slice(), 4, 3280, 32);
     Ok(())
 }
 
@@ -252,13 +234,13 @@ fn expressions_are_nested_at_most_64_deep(rt: HostRuntime) -> Result<(), AllocEr
     reads(&rt, draft.text.as_slice(), 0, 1, 64);
     draft.rules(1, 64)?;
     // the second line begins at 391
-    in_expressions(&rt, draft.text.as_slice(), 6, 717, 2);
+    refused(&rt, Expressions, draft.text.as_slice(), 6, 717, 2);
     // a word that is not wanted is found before
     draft.text.truncate(0);
     draft.write(1, b"(rule")?;
     draft.write(64, b" (not")?;
     draft.write(1, b" (class")?;
-    in_expressions(&rt, draft.text.as_slice(), 4, 327, 1);
+    refused(&rt, Expressions, draft.text.as_slice(), 4, 327, 1);
     Ok(())
 }
 
@@ -268,7 +250,7 @@ fn an_expression_too_many_and_too_deep(rt: HostRuntime) -> Result<(), AllocError
     let mut draft = Draft::new(rt.alloc());
     draft.rules(7, 63)?;
     draft.rules(1, 64)?;
-    in_book(&rt, draft.text.as_slice(), 5, 3063, 8);
+    refused(&rt, Book, draft.text.as_slice(), 5, 3063, 8);
     Ok(())
 }
 
@@ -278,52 +260,54 @@ fn a_book_has_at_most_32768_bytes(rt: HostRuntime) -> Result<(), AllocError> {
     // a book within the other limits is far shorter, so only the fault tells
     let mut draft = Draft::new(rt.alloc());
     draft.write(32_768, b"(")?;
-    in_expressions(&rt, draft.text.as_slice(), 4, 1, 1);
+    refused(&rt, Expressions, draft.text.as_slice(), 4, 1, 1);
     draft.write(1, b"(")?;
-    in_book(&rt, draft.text.as_slice(), 1, 0, 1);
+    refused(&rt, Book, draft.text.as_slice(), 1, 0, 1);
     draft.text.truncate(0);
     draft.write(1, b"(rule (any))\n")?;
     draft.write(32_755, b"\n")?;
-    in_expressions(&rt, draft.text.as_slice(), 4, 13, 2);
+    refused(&rt, Expressions, draft.text.as_slice(), 4, 13, 2);
     draft.write(1, b"\n")?;
-    in_book(&rt, draft.text.as_slice(), 1, 0, 1);
+    refused(&rt, Book, draft.text.as_slice(), 1, 0, 1);
     Ok(())
 }
 
 #[test]
 fn a_class_that_is_not_lawful(rt: HostRuntime) {
-    in_book(&rt, b"(class 2 1)\n(rule (any))\n", 7, 0, 1);
-    in_book(
+    refused(&rt, Book, b"(class 2 1)\n(rule (any))\n", 7, 0, 1);
+    refused(
         &rt,
+        Book,
         b"(class 0 255)\n(class 0 256)\n(rule (any))\n",
         7,
         14,
         2,
     );
     // found at the closing bracket, before the line feed is missed
-    in_book(&rt, b"(class 2 1)", 7, 0, 1);
-    in_book(&rt, b"(class 0 0)\n(class 2 1)\x80", 7, 12, 2);
-    in_expressions(&rt, b"(class 2 1", 4, 10, 1);
-    in_expressions(&rt, b"(class 2 1 ", 4, 10, 1);
+    refused(&rt, Book, b"(class 2 1)", 7, 0, 1);
+    refused(&rt, Book, b"(class 0 0)\n(class 2 1)\x80", 7, 12, 2);
+    refused(&rt, Expressions, b"(class 2 1", 4, 10, 1);
+    refused(&rt, Expressions, b"(class 2 1 ", 4, 10, 1);
 }
 
 #[test]
 fn a_class_is_lawful_for_its_kind(rt: HostRuntime) {
     let mask = b"(class 65280 256)\n(rule (term 0))\n";
     assert_eq!(rt; answer(&CommandKind, mask), Ok((1, 1, 1)));
-    in_book(&rt, mask, 7, 0, 1);
+    refused(&rt, Book, mask, 7, 0, 1);
     let range = b"(class 1 2)\n(rule (term 0))\n";
     reads(&rt, range, 1, 1, 1);
-    assert_eq!(rt; answer(&CommandKind, range), Err((7, Layer::Book, 0, 1)));
+    assert_eq!(rt; answer(&CommandKind, range), Err((7, Book, 0, 1)));
 }
 
 #[test]
 fn the_earliest_number_that_is_not_there(rt: HostRuntime) {
-    in_book(&rt, b"(rule (term 0))\n", 8, 6, 1);
-    in_book(&rt, b"(class 0 0)\n(rule (term 1))\n", 8, 18, 2);
-    in_book(&rt, b"(rule (seq (call 1) (term 0)))\n", 8, 11, 1);
-    in_book(
+    refused(&rt, Book, b"(rule (term 0))\n", 8, 6, 1);
+    refused(&rt, Book, b"(class 0 0)\n(rule (term 1))\n", 8, 18, 2);
+    refused(&rt, Book, b"(rule (seq (call 1) (term 0)))\n", 8, 11, 1);
+    refused(
         &rt,
+        Book,
         b"(rule (seq (any) (term 0)))\n(rule (call 2))\n",
         8,
         17,
@@ -331,28 +315,44 @@ fn the_earliest_number_that_is_not_there(rt: HostRuntime) {
     );
     // a rule may be called before its line
     reads(&rt, b"(rule (call 1))\n(rule (any))\n", 0, 2, 2);
-    in_book(&rt, b"(rule (call 1))\n(rule (call 2))\n", 8, 22, 2);
+    refused(&rt, Book, b"(rule (call 1))\n(rule (call 2))\n", 8, 22, 2);
 }
 
 #[test]
 fn a_star_that_could_go_round_for_ever(rt: HostRuntime) {
-    in_book(&rt, b"(rule (star (empty)))\n", 9, 6, 1);
-    in_book(&rt, b"(rule (star (star (any))))\n", 9, 6, 1);
-    in_book(&rt, b"(rule (star (not (any))))\n", 9, 6, 1);
-    in_book(&rt, b"(rule (star (alt (any) (empty))))\n", 9, 6, 1);
-    in_book(
+    refused(&rt, Book, b"(rule (star (empty)))\n", 9, 6, 1);
+    refused(&rt, Book, b"(rule (star (star (any))))\n", 9, 6, 1);
+    refused(&rt, Book, b"(rule (star (not (any))))\n", 9, 6, 1);
+    refused(&rt, Book, b"(rule (star (alt (any) (empty))))\n", 9, 6, 1);
+    refused(
         &rt,
+        Book,
         b"(rule (any))\n(rule (not (star (empty))))\n",
         9,
         24,
         2,
     );
     // through a rule, before and after its line
-    in_book(&rt, b"(rule (star (call 1)))\n(rule (empty))\n", 9, 6, 1);
-    in_book(&rt, b"(rule (empty))\n(rule (star (call 0)))\n", 9, 21, 2);
-    // the earliest of two
-    in_book(
+    refused(
         &rt,
+        Book,
+        b"(rule (star (call 1)))\n(rule (empty))\n",
+        9,
+        6,
+        1,
+    );
+    refused(
+        &rt,
+        Book,
+        b"(rule (empty))\n(rule (star (call 0)))\n",
+        9,
+        21,
+        2,
+    );
+    // the earliest of two
+    refused(
+        &rt,
+        Book,
         b"(rule (alt (star (empty)) (star (empty))))\n",
         9,
         11,
@@ -365,7 +365,7 @@ fn a_star_that_reads_each_time(rt: HostRuntime) {
     reads(&rt, b"(rule (star (any)))\n", 0, 1, 2);
     reads(&rt, b"(rule (star (seq (empty) (any))))\n", 0, 1, 4);
     reads(&rt, b"(rule (star (seq (any) (empty))))\n", 0, 1, 4);
-    in_book(&rt, b"(rule (star (seq (empty) (empty))))\n", 9, 6, 1);
+    refused(&rt, Book, b"(rule (star (seq (empty) (empty))))\n", 9, 6, 1);
 }
 
 #[test]
@@ -375,15 +375,43 @@ fn a_rule_that_calls_itself(rt: HostRuntime) {
     reads(&rt, b"(rule (call 0))\n(rule (star (call 0)))\n", 0, 2, 3);
     reads(&rt, b"(rule (star (call 1)))\n(rule (call 1))\n", 0, 2, 3);
     // this one is, but by its second operand
-    in_book(&rt, b"(rule (alt (call 0) (star (call 0))))\n", 9, 20, 1);
+    refused(
+        &rt,
+        Book,
+        b"(rule (alt (call 0) (star (call 0))))\n",
+        9,
+        20,
+        1,
+    );
 }
 
 #[test]
 fn which_fault_is_told(rt: HostRuntime) {
     // while it is read; then a number that is not there; then a star
-    in_expressions(&rt, b"(rule (star (empty)))\n(rule (call 7))", 4, 37, 2);
-    in_book(&rt, b"(rule (star (empty)))\n(rule (call 7))\n", 8, 28, 2);
-    in_book(&rt, b"(rule (star (empty)))\n(rule (call 1))\n", 9, 6, 1);
+    refused(
+        &rt,
+        Expressions,
+        b"(rule (star (empty)))\n(rule (call 7))",
+        4,
+        37,
+        2,
+    );
+    refused(
+        &rt,
+        Book,
+        b"(rule (star (empty)))\n(rule (call 7))\n",
+        8,
+        28,
+        2,
+    );
+    refused(
+        &rt,
+        Book,
+        b"(rule (star (empty)))\n(rule (call 1))\n",
+        9,
+        6,
+        1,
+    );
 }
 
 fn tells(rt: &impl Abort, fault: BookFault, number: u8, layer: Layer) {
@@ -397,23 +425,23 @@ fn numbers_layers_and_spots_of_faults(rt: HostRuntime) {
     let spot = Spot { place: 7, line: 3 };
     let stray = ExprFault::InToken(TokenFault::Stray(spot));
     let bad_number = ExprFault::InToken(TokenFault::BadNumber(spot));
-    tells(&rt, BookFault::TooLong(spot), 1, Layer::Book);
-    tells(&rt, BookFault::InExpr(stray), 2, Layer::Tokens);
-    tells(&rt, BookFault::InExpr(bad_number), 3, Layer::Tokens);
+    tells(&rt, BookFault::TooLong(spot), 1, Book);
+    tells(&rt, BookFault::InExpr(stray), 2, Tokens);
+    tells(&rt, BookFault::InExpr(bad_number), 3, Tokens);
     tells(
         &rt,
         BookFault::InExpr(ExprFault::Unwanted(spot)),
         4,
-        Layer::Expressions,
+        Expressions,
     );
-    tells(&rt, BookFault::TooMany(spot), 5, Layer::Book);
+    tells(&rt, BookFault::TooMany(spot), 5, Book);
     tells(
         &rt,
         BookFault::InExpr(ExprFault::TooDeep(spot)),
         6,
-        Layer::Expressions,
+        Expressions,
     );
-    tells(&rt, BookFault::Unlawful(spot), 7, Layer::Book);
-    tells(&rt, BookFault::Missing(spot), 8, Layer::Book);
-    tells(&rt, BookFault::Loop(spot), 9, Layer::Book);
+    tells(&rt, BookFault::Unlawful(spot), 7, Book);
+    tells(&rt, BookFault::Missing(spot), 8, Book);
+    tells(&rt, BookFault::Loop(spot), 9, Book);
 }
