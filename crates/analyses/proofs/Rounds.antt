@@ -50,13 +50,17 @@ module _ (k : ℕ) (roots : List ℕ) (flags before after : List Bool) (changed 
     still = λ c. let s = b.still c in (s.0, below_more _ _ s.1 (λ f. rw (← s.0) (h f)));
   }
 
-  pub round_mark : k < length after → get_or after k false ≡ false → get_or flags (get_or roots k 0) false ≡ true → Round (k + 1) roots flags before (set after k true) true
-  round_mark l h f = record {
+  marked : k < length after → get_or after k false ≡ false → get_or flags (get_or roots k 0) false ≡ true → Round (k + 1) roots flags before (set after k true) true
+  marked l h f = record {
     as_long = length-set after k true ∙ b.as_long;
     new = λ n e. grind (arith, common_steps, cases_eq n k, b.new n);
     fewer = λ _. grind (arith, unmarked_set after k l h, b.fewer, b.still, cases_Bool changed);
     still = λ c. cc;
   }
+
+  -- what is so marked, under other names
+  pub round_mark : (marks : List Bool) (new : Bool) → marks ≡ set after k true → new ≡ true → k < length after → get_or after k false ≡ false → get_or flags (get_or roots k 0) false ≡ true → Round (k + 1) roots flags before marks new
+  round_mark marks new m e l h f = rw (m, e) (marked l h f)
 
 -- The rules of a grammar that a book holds stand where its roots say.
 roots_stand : (book : Book) (g : Grammar) → Holds book g → (n : ℕ) → n < length g.rules → Stands (laid book.table) (get_or (listed book.roots) n 0) (body g.rules n)

@@ -1,5 +1,4 @@
-use Rattle.std.proofs.Common.{rules, ◌≡◌, ◌&&◌, Bool, Bor, arith, drop}
-use Rattle.std.proofs.lemmas.Grind.{common_steps}
+use Rattle.std.proofs.Common.{rules, ◌≡◌, ◌&&◌, Bool, Bor, drop}
 use borrow.Author.Tests.{tests}
 use Rattle.std.proofs.lemmas.Iterator.{YieldsList-from_slice, YieldsList-from_zip}
 use Rattle.std.proofs.lemmas.Iterator.Adapters.{YieldsList-from_skip}
@@ -18,7 +17,7 @@ returns-clause-first c =
     let flags = c.flag_nodes-flags.result in
     let test : (Node × Bool) → Bool = λ p. repeats p.0.operator && p.1 in
     let found : option_map (λ (p : Bor Node × Bor Bool). (p.0.now, p.1.now)) c.find.result ≡ find test (zip nodes (drop 1 flags)) = find_from_yields_List test c.find.new.self _ c.find.result c.find.ensures.ran (YieldsList-from_zip (YieldsList-from_slice nodes (cc)) (YieldsList-from_skip 1 (YieldsList-from_slice flags (cc)) (cc))) (λ x b q k. search (rules, tests)) in
-    let places : c.map.result ≡ option_map (λ (p : Node × Bool). p.0.place) (find test (zip nodes (drop 1 flags))) = grind (arith, common_steps) in
+    let places : c.map.result ≡ option_map (λ (p : Node × Bool). p.0.place) (find test (zip nodes (drop 1 flags))) = search (rules, found) in
     first_loop_lem c.args.book.now _ _ _ c.nullable_rules-rules.ensures.right c.flag_nodes-flags.ensures places
 
 pub returns-clause-found : goal.returns-clause-found

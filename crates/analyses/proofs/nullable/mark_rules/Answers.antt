@@ -7,7 +7,7 @@ pub loop-n-preserved : goal.loop-n-preserved
 loop-n-preserved c =
     elim c.if-not-marks-n.branch [
       | then-not-marks-n+then-flag_at w ↦
-          rw (w.marks-is, w.changed-is) (round_mark c.loop-n.n _ _ _ _ _ c.loop-n.invariant (omega arith) (cc) (cc))
+          round_mark c.loop-n.n _ _ _ _ _ c.loop-n.invariant c.if-not-marks-n.marks c.if-not-marks-n.changed (cc) (cc) (omega arith) (cc) (cc)
       | else-not-marks-n w ↦ rw (w.marks-is, w.changed-is) (round_skip c.loop-n.n _ _ _ _ _ c.loop-n.invariant
           (elim w.else-not-marks-n.branch [
             | else-not-marks-n-via-then-not-marks-n+else-flag_at u ↦ λ flagged. cc
