@@ -68,6 +68,7 @@ impl Reader<'_> {
                     return Ok(classes);
                 }
                 LineWord::Class => {
+                    // found at the word, before there is a class to push
                     if classes.count() >= MOST_CLASSES {
                         return Err(BookFault::TooMany(self.spot_of(start)));
                     }
