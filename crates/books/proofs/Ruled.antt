@@ -1,5 +1,5 @@
 -- Rule lines that have been read stand in the tables.
-use Rattle.std.proofs.Common.{◌≡◌, ℕ, suc, ◌+◌, ◌-◌, ◌<◌, cond, ltb, List, [], ◌∷◌, ◌++◌, length, codes, sym, refl, ap, ◌∙◌, append_assoc, zero-add, arith, length-append, length-drop}
+use Rattle.std.proofs.Common.{◌≡◌, ℕ, ◌+◌, ◌-◌, ◌<◌, cond, ltb, List, [], ◌∷◌, ◌++◌, length, codes, sym, refl, ap, ◌∙◌, append_assoc, zero-add, arith, length-append, length-drop}
 use Rattle.std.proofs.lemmas.List.{append-nil, length_push}
 use Rattle.tokens.specs.Out.{Out, ok, no}
 use Rattle.tokens.specs.declared.token.Word.TheVariants.{Rule}
@@ -84,10 +84,6 @@ starts_push i (y ∷ es) x =
 pub flats_length : (i at : ℕ) (es : List Expr) → length (flats i at es) ≡ sizes es
 flats_length i at [] = refl
 flats_length i at (e ∷ es) = omega (arith, length-append (flat i (past at (codes "rule")) e) (flats (i + size e) (at + line_width e) es), flat_length i (past at (codes "rule")) e, flats_length (i + size e) (at + line_width e) es)
-
-pub starts_length : (i : ℕ) (es : List Expr) → length (starts i es) ≡ length es
-starts_length i [] = refl
-starts_length i (e ∷ es) = ap suc (starts_length (i + size e) es)
 
 onward_more : (rd : ℕ → List ℕ → Out BookFault (List Expr)) (es : List Expr) (at : ℕ) (xs : List ℕ) → 0 < length xs → onward rd es at xs ≡ rd at xs
 onward_more rd es at [] h = absurd (omega arith)

@@ -1,5 +1,6 @@
 use Rattle.grammar.specs.Allowed.{rules_at}
-use Rattle.books.proofs.Ruled.{flats_length, starts_length}
+use Rattle.grammar.proofs.Widths.{starts_length}
+use Rattle.books.proofs.Ruled.{flats_length}
 use Rattle.station_with_books.proofs.answers.CountsFromRefBook.from.Goals as goal
 
 pub returns : goal.returns
