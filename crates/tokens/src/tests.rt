@@ -11,12 +11,11 @@ fn word(letters: &[u8], word: Word) -> bool {
     Word::from(letters) == word && gives(letters, 0, Token::Letters(word), letters.len())
 }
 
-fn stray(bytes: &[u8], place: usize, line: usize) -> bool {
-    next_token(bytes, place) == Err(TokenFault::Stray(Spot { place, line }))
-}
-
-fn bad_number(bytes: &[u8], place: usize, line: usize) -> bool {
-    next_token(bytes, place) == Err(TokenFault::BadNumber(Spot { place, line }))
+// Whether there is this fault in the place of a token, and on this line.
+fn refused<F: Fn(Spot) -> TokenFault>(fault: F, bytes: &[u8], place: usize, line: usize) -> bool
+    requires { F.IsAlwaysCallable fault }
+{
+    next_token(bytes, place) == Err(fault(Spot { place, line }))
 }
 
 fn lies_on(bytes: &[u8], place: usize, line: usize) -> bool {
@@ -78,27 +77,27 @@ fn numbers_are_the_longest_runs_of_digits(rt: HostRuntime) {
 
 #[test]
 fn bad_numbers(rt: HostRuntime) {
-    assert!(rt; bad_number(b"00", 0, 1));
-    assert!(rt; bad_number(b"01", 0, 1));
-    assert!(rt; bad_number(b"4294967296", 0, 1));
-    assert!(rt; bad_number(b"\n\n 04294967295", 3, 3));
-    assert!(rt; bad_number(&[b'9'; 100], 0, 1));
-    assert!(rt; bad_number(&[b'0'; 100], 0, 1));
+    assert!(rt; refused(TokenFault::BadNumber, b"00", 0, 1));
+    assert!(rt; refused(TokenFault::BadNumber, b"01", 0, 1));
+    assert!(rt; refused(TokenFault::BadNumber, b"4294967296", 0, 1));
+    assert!(rt; refused(TokenFault::BadNumber, b"\n\n 04294967295", 3, 3));
+    assert!(rt; refused(TokenFault::BadNumber, &[b'9'; 100], 0, 1));
+    assert!(rt; refused(TokenFault::BadNumber, &[b'0'; 100], 0, 1));
 }
 
 #[test]
 fn stray_bytes(rt: HostRuntime) {
-    assert!(rt; stray(b"Rule", 0, 1));
-    assert!(rt; stray(b"(\t", 1, 1));
-    assert!(rt; stray(b"\r\n", 0, 1));
-    assert!(rt; stray(b"()\n(\x80", 4, 2));
-    assert!(rt; stray(b"\xff", 0, 1));
-    assert!(rt; stray(b"\0", 0, 1));
+    assert!(rt; refused(TokenFault::Stray, b"Rule", 0, 1));
+    assert!(rt; refused(TokenFault::Stray, b"(\t", 1, 1));
+    assert!(rt; refused(TokenFault::Stray, b"\r\n", 0, 1));
+    assert!(rt; refused(TokenFault::Stray, b"()\n(\x80", 4, 2));
+    assert!(rt; refused(TokenFault::Stray, b"\xff", 0, 1));
+    assert!(rt; refused(TokenFault::Stray, b"\0", 0, 1));
     // the neighbours of digits and of letters
-    assert!(rt; stray(b"/:`{", 0, 1));
-    assert!(rt; stray(b"/:`{", 1, 1));
-    assert!(rt; stray(b"/:`{", 2, 1));
-    assert!(rt; stray(b"/:`{", 3, 1));
+    assert!(rt; refused(TokenFault::Stray, b"/:`{", 0, 1));
+    assert!(rt; refused(TokenFault::Stray, b"/:`{", 1, 1));
+    assert!(rt; refused(TokenFault::Stray, b"/:`{", 2, 1));
+    assert!(rt; refused(TokenFault::Stray, b"/:`{", 3, 1));
 }
 
 #[test]
