@@ -1,5 +1,5 @@
 -- The part of a line that is shown around a place.
-use Rattle.std.specs.Prelude.{ℕ, ◌+◌, ◌-◌, min, max, nat_lt}
+use Rattle.std.specs.Prelude.{ℕ, ◌+◌, ◌-◌, min, max, Bool, nat_lt}
 use Rattle.checking.specs.declared.line.Line.{Line}
 use Rattle.checking.specs.declared.excerpt.Excerpt.{Excerpt}
 
@@ -10,7 +10,12 @@ shown_from line place = max (place - 40) line.start
 abbrev pub shown_to : Line → ℕ → ℕ
 shown_to line place = min (place + 20) line.end
 
--- With a word for each end, whether the line is cut there.
 abbrev pub excerpt_of : Line → ℕ → Excerpt
-excerpt_of line place =
-    record { from = shown_from line place; to = shown_to line place; cut_before = nat_lt line.start (shown_from line place); cut_after = nat_lt (shown_to line place) line.end }
+excerpt_of line place = record { line = line; from = shown_from line place; to = shown_to line place }
+
+-- Whether the line goes on past either end.
+abbrev pub cut_before : Excerpt → Bool
+cut_before e = nat_lt e.line.start e.from
+
+abbrev pub cut_after : Excerpt → Bool
+cut_after e = nat_lt e.to e.line.end

@@ -3,7 +3,7 @@ use Rattle.std.specs.Prelude.{◌≡◌, ℕ, ◌-◌, min, Bool, cond, List, []
 use Rattle.checking.specs.declared.line.Line.{Line}
 use Rattle.checking.specs.declared.excerpt.Excerpt.{Excerpt}
 use Rattle.checking.specs.Lines.{Around}
-use Rattle.checking.specs.Excerpts.{excerpt_of}
+use Rattle.checking.specs.Excerpts.{excerpt_of, cut_before, cut_after}
 use Rattle.checking.specs.Escapes.{escapes}
 
 -- The bytes from a up to b.
@@ -16,10 +16,10 @@ dots cut = cond cut (codes "...") []
 
 -- What is shown of the line before the place, and from the place on.
 abbrev pub before : List ℕ → Excerpt → ℕ → List ℕ
-before bs e p = dots e.cut_before ++ escapes (part bs e.from p)
+before bs e p = dots (cut_before e) ++ escapes (part bs e.from p)
 
 abbrev pub after : List ℕ → Excerpt → ℕ → List ℕ
-after bs e p = escapes (part bs p e.to) ++ dots e.cut_after
+after bs e p = escapes (part bs p e.to) ++ dots (cut_after e)
 
 -- The line, and below it the caret: as many spaces before it as what stands before the place is wide.
 abbrev pub pointer : List ℕ → Excerpt → ℕ → List ℕ

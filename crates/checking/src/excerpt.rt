@@ -1,5 +1,5 @@
 ghost use Rattle.std.specs.Prelude.{◌≡◌};
-ghost use Rattle.checking.specs.Excerpts.{excerpt_of};
+ghost use Rattle.checking.specs.Excerpts.{excerpt_of, cut_before, cut_after};
 
 use crate::line::Line;
 
@@ -12,13 +12,9 @@ pub const BYTES_AFTER: usize = 20;
 /// The part of a line that is shown around a place: the bytes from `from` up to `to`.
 #[derive(Clone, Copy, PartialEq, Eq, Debug)]
 pub struct Excerpt {
+    pub line: Line,
     pub from: usize,
     pub to: usize,
-    // the two ends do not say whether the line goes on past them
-    /// Bytes of the line before it are left out.
-    pub cut_before: bool,
-    /// Bytes of the line after it are left out.
-    pub cut_after: bool,
 }
 
 impl Excerpt {
@@ -27,13 +23,24 @@ impl Excerpt {
     pub fn around(line: Line, place: usize) -> Excerpt
         ensures { result ≡ excerpt_of line place }
     {
-        let from = place.saturating_sub(BYTES_BEFORE).max(line.start);
-        let to = place.saturating_add(BYTES_AFTER).min(line.end);
         Excerpt {
-            from,
-            to,
-            cut_before: line.start < from,
-            cut_after: to < line.end,
+            line,
+            from: place.saturating_sub(BYTES_BEFORE).max(line.start),
+            to: place.saturating_add(BYTES_AFTER).min(line.end),
         }
+    }
+
+    /// Whether bytes of the line before it are left out.
+    pub fn is_cut_before(&self) -> bool
+        ensures { result ≡ cut_before self.now }
+    {
+        self.line.start < self.from
+    }
+
+    /// Whether bytes of the line after it are left out.
+    pub fn is_cut_after(&self) -> bool
+        ensures { result ≡ cut_after self.now }
+    {
+        self.to < self.line.end
     }
 }

@@ -21,14 +21,18 @@ pub(crate) fn pointer(heap: Global, bytes: &[u8], place: usize) -> Result<String
 {
     let line = Line::around(bytes, place);
     let place = place.min(bytes.len());
-    let Excerpt {
-        from,
-        to,
-        cut_before,
-        cut_after,
-    } = Excerpt::around(line, place);
-    let before = format!(in heap; "{}{}", dots(cut_before), Escapes(&bytes[from..place]))?;
-    let after = format!(in heap; "{}{}", Escapes(&bytes[place..to]), dots(cut_after))?;
+    let shown = Excerpt::around(line, place);
+    let Excerpt { from, to, .. } = shown;
+    let before = format!(in heap;
+        "{}{}",
+        dots(shown.is_cut_before()),
+        Escapes(&bytes[from..place])
+    )?;
+    let after = format!(in heap;
+        "{}{}",
+        Escapes(&bytes[place..to]),
+        dots(shown.is_cut_after())
+    )?;
     let column = before.len();
     format!(in heap; "{before}{after}\n{:column$}^\n", "")
 }

@@ -1,5 +1,7 @@
 use crate::asking::{MOST_INPUT, check};
 use crate::escape::{Escape, Escapes, put_escaped};
+use crate::excerpt::Excerpt;
+use crate::line::Line;
 use crate::pointing::put_pointer;
 use std::alloc::Global;
 use std::process::Abort;
@@ -140,6 +142,19 @@ fn a_long_line_is_cut(rt: HostRuntime) -> Result<(), Fail> {
         41,
         "...aaaaaaaaaaaaaaaaaaaaaaaaaaaaaaaaaaaaaaaaaaaaaaaaaaaaaaaaaaaa\n                                           ^\n",
     )
+}
+
+#[test]
+fn an_excerpt_says_where_the_line_goes_on(rt: HostRuntime) {
+    let line = Line { start: 5, end: 66 };
+    let first = Excerpt::around(line, 45);
+    assert_eq!(rt; (first.from, first.to), (5, 65));
+    assert!(rt; !first.is_cut_before());
+    assert!(rt; first.is_cut_after());
+    let next = Excerpt::around(line, 46);
+    assert_eq!(rt; (next.from, next.to), (6, 66));
+    assert!(rt; next.is_cut_before());
+    assert!(rt; !next.is_cut_after());
 }
 
 #[test]

@@ -1,4 +1,4 @@
-use Rattle.std.proofs.Common.{sym, subst, arith, length-take}
+use Rattle.std.proofs.Common.{ℕ, sym, subst, arith, length-take}
 use Rattle.checking.specs.Checks.{Checked, over, accepted, refused}
 use Rattle.checking.specs.Reports.{acceptance}
 use Rattle.checking.proofs.Asked.{shows_loaded}
@@ -15,7 +15,7 @@ unwrap-length-requires c =
 pub slice_bounds-put_acceptance-end : goal.slice_bounds-put_acceptance-end
 slice_bounds-put_acceptance-end c =
     let h = (shows_loaded _ _ c.in-Ok.ensures.loads (omega (arith, c.as_mut_slice-out.ensures.len, c.in_ok-buffer-in-Ok.ensures.len)) c.show.ensures.shows).1 _ c.unwrap-length.ensures in
-    omega (arith, h.0, length-take c.unwrap-length.result c.show.new.out)
+    omega (arith, h.0, length-take {A = ℕ})
 
 pub returns : goal.returns
 returns c =

@@ -29,9 +29,9 @@ shown bs place p line e b a lines n is_p around is_e is_b is_a is_n is_lines =
 
 pub returns : goal.returns
 returns c =
-    let is_b : string_bytes c.in_ok-before.before ≡ before c.args.bytes.now c.around-from.result c.min-place.result = c.in_ok-before.ensures.ok ∙ cc in
-    let is_a : string_bytes c.in_ok-after.after ≡ after c.args.bytes.now c.around-from.result c.min-place.result = c.in_ok-after.ensures.ok ∙ cc in
+    let is_b : string_bytes c.in_ok-before.before ≡ before c.args.bytes.now c.around-shown.result c.min-place.result = c.in_ok-before.ensures.ok ∙ cc in
+    let is_a : string_bytes c.in_ok-after.after ≡ after c.args.bytes.now c.around-shown.result c.min-place.result = c.in_ok-after.ensures.ok ∙ cc in
     let is_n : c.len-column.result ≡ length (string_bytes c.in_ok-before.before) = search rules in
     let is_lines = rw (c.laid_out.ensures, spaces) at c.format-3.ensures.ok in
-    IfOk-weaker _ _ _ (λ s. shown c.args.bytes.now c.args.place c.min-place.result c.around-line.result c.around-from.result (string_bytes c.in_ok-before.before) (string_bytes c.in_ok-after.after) (string_bytes s) c.len-column.result
-    c.min-place.ensures c.around-line.ensures c.around-from.ensures is_b is_a is_n) is_lines
+    IfOk-weaker _ _ _ (λ s. shown c.args.bytes.now c.args.place c.min-place.result c.around-line.result c.around-shown.result (string_bytes c.in_ok-before.before) (string_bytes c.in_ok-after.after) (string_bytes s) c.len-column.result
+    c.min-place.ensures c.around-line.ensures c.around-shown.ensures is_b is_a is_n) is_lines
