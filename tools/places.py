@@ -70,7 +70,7 @@ def functions(source):
     """Each function's head: from `fn` up to the line that opens its body."""
     head = []
     for line in source.split("\n"):
-        if re.match(r"\s*(pub(\(crate\))? )?(const )?fn ", line):
+        if re.match(r"\s*(pub(\(\w+\))? )?(const )?fn ", line):
             head = [line]
         elif head:
             head.append(line)

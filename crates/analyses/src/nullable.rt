@@ -8,7 +8,7 @@ ghost use Rattle.analyses.specs.Decided.{NullableDecided};
 
 use grammar::{Book, MOST_EXPRESSIONS, MOST_RULES, Node, Operator, Roots, Table};
 
-/// Which rules are nullable.
+/// Which rules are nullable: a mark for each rule that there may be, in fixed memory.
 ///
 /// It goes round until a round marks no rule. There are at most 32 rules to mark, so at most 33
 /// rounds of at most 512 nodes.
@@ -36,7 +36,7 @@ fn mark_rules(
     let mut changed = false;
     // not `marks.iter_mut().zip(..)`: after such a loop a proof knows nothing of the marks
     for (n, root) in roots.as_slice().iter().enumerate() {
-        if !marks[n] && flag_at(flags, *root as usize) {
+        if !marks[n] && flag_at(flags, usize::from(*root)) {
             marks[n] = true;
             changed = true;
         }
@@ -68,8 +68,8 @@ fn flag_node(operator: Operator, nodes: &[Node], marks: &[bool], flags: &[bool],
         Operator::Empty | Operator::Star | Operator::Not => true,
         Operator::Any | Operator::Term(_) => false,
         Operator::Call(rule) => flag_at(marks, rule as usize),
-        Operator::Seq => flag_at(flags, first) && flag_at(flags, second as usize),
-        Operator::Alt => flag_at(flags, first) || flag_at(flags, second as usize),
+        Operator::Seq => flag_at(flags, first) && flag_at(flags, usize::from(second)),
+        Operator::Alt => flag_at(flags, first) || flag_at(flags, usize::from(second)),
     }
 }
 

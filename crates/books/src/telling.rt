@@ -6,6 +6,7 @@ use tokens::{Spot, TokenFault};
 
 impl BookFault {
     /// The fault's number, 1 to 9.
+    // No discriminants: the nine lie in three enums, one inside the other.
     pub fn number(&self) -> u8
         ensures { result ≡ (told self.now).number }
     {

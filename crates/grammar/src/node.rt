@@ -15,6 +15,7 @@ pub enum Operator {
 /// An expression in the table: its operator, the index just past its last part, and the byte place
 /// of its opening bracket. Its first part is the next node; its second part begins where the first
 /// ends.
+// Indices and no boxes: a book lies in fixed memory, without a heap.
 #[derive(Clone, Copy, PartialEq, Eq, Default, Debug)]
 pub struct Node {
     pub operator: Operator,

@@ -28,6 +28,7 @@ pub fn serve<K: Kind + Drop>(kind: K, requests: &[Request], answers: &mut [Answe
 }
 
 // One request.
+// A match, and no closures: the calls are a closed list, and each takes and answers something else.
 fn ask<K: Kind>(station: &mut Station<K>, request: Request) -> Answer
     ensures { Keeps {S = K.Symbol} station.old (call_of request) (reply_of result) station.new }
 {

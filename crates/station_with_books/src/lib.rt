@@ -4,6 +4,9 @@
 //! `load` takes a book, `show` writes it back, `bill` answers the sum and `settle` answers it and
 //! starts again; reading comes later. The law over every list of calls stands on `Station::new` and
 //! on `serve`.
+//!
+//! The crate `station` has the calls of the bill alone. Both stand, for its law was delivered as it is, and with
+//! books the law has more calls; the two become one when books are delivered.
 
 #![tactic(auto)]
 

@@ -34,6 +34,7 @@ pub fn serve<K: Kind + Drop>(
 }
 
 // One request.
+// A match, and no closures: the calls are a closed list, and each takes and answers something else.
 #[tactic(auto, using(crate::proofs::Asks::asked_load, crate::proofs::Asks::asked_show, crate::proofs::Asks::asked_bill, crate::proofs::Asks::asked_settle))]
 fn ask<K: Kind>(station: &mut Station<K>, request: Request<'_>, out: &mut [u8]) -> Answer
     ensures { Asked K.Symbol K.Kind.lawful station.old out.old request.entry result station.new out.new }
