@@ -3,4 +3,3 @@ pub mod Decided
 pub mod Stands
 pub mod Search
 pub mod Rounds
-pub mod Built

@@ -11,21 +11,20 @@ fn answer<K: Kind>(
     kind: &K,
     bytes: &[u8],
 ) -> Result<(usize, usize, u16), (u8, Layer, usize, usize)> {
-    match read_book(kind, bytes) {
-        Ok(book) => Ok((book.classes.count(), book.roots.count(), book.table.count())),
-        Err(fault) => {
-            let spot = fault.spot();
-            Err((fault.number(), fault.layer(), spot.place, spot.line))
-        }
-    }
+    read_book(kind, bytes)
+        .map(|book| (book.classes.count(), book.roots.count(), book.table.count()))
+        .map_err(|fault| {
+            let Spot { place, line } = fault.spot();
+            (fault.number(), fault.layer(), place, line)
+        })
 }
 
-// Whether a book of bytes is read, with so many classes, rules and expressions.
+// A book of bytes is read, with so many classes, rules and expressions.
 fn reads(rt: &impl Abort, bytes: &[u8], classes: usize, rules: usize, expressions: u16) {
     assert_eq!(rt; answer(&ByteKind, bytes), Ok((classes, rules, expressions)));
 }
 
-// Whether this layer of the reader finds this fault in a book of bytes.
+// This layer of the reader finds this fault in a book of bytes.
 fn refused(rt: &impl Abort, layer: Layer, bytes: &[u8], number: u8, place: usize, line: usize) {
     assert_eq!(rt; answer(&ByteKind, bytes), Err((number, layer, place, line)));
 }

@@ -10,6 +10,7 @@ shown_from line place = max (place - 40) line.start
 abbrev pub shown_to : Line → ℕ → ℕ
 shown_to line place = min (place + 20) line.end
 
+-- What is shown of the line around the place.
 abbrev pub excerpt_of : Line → ℕ → Excerpt
 excerpt_of line place = record { line = line; from = shown_from line place; to = shown_to line place }
 

@@ -3,7 +3,7 @@ ghost use Rattle.std.specs.Prelude.{◌≡◌, ◌≤◌, Ok, length, ⊤};
 use std::alloc::AllocError;
 
 /// A list of at most `MOST` items, kept in the value itself: no heap.
-// The kit's `ArrayVec` is not `Copy`, and a book is handed on as a copy.
+// Not the kit's `ArrayVec`: that is not `Copy`, and the lists of a book always were, so a caller may rely on it.
 #[derive(Copy, Drop)]
 pub struct Limited<T, const MOST: usize> {
     list: [T; MOST],
@@ -11,7 +11,7 @@ pub struct Limited<T, const MOST: usize> {
     ghost within: { (length list ≡ MOST) × (count ≤ MOST) },
 }
 
-// No derive writes this over a ghost field.
+// No derive writes this over a ghost field with a type parameter beside it.
 impl<T: Copy, const MOST: usize> Clone for Limited<T, MOST> {
     ghost is_clone = { λ x y. y ≡ x };
 

@@ -39,8 +39,8 @@ impl Table {
         self.list.as_slice()
     }
 
-    /// The expression with this number; past the last it is blank, as this call has always promised.
-    // An `Option` is what `nodes().get(..)` answers.
+    /// The expression with this number; past the last it is blank.
+    // No `Option`: callers were promised a blank node. `nodes().get(..)` has one.
     #[tactic(auto, using(crate::proofs::Counted::counted), unfolding(crate::specs::Tables::laid))]
     pub fn node(&self, i: u16) -> Node
         ensures { result ≡ slice_index_or (laid self.now) i blank }

@@ -17,7 +17,7 @@ pub fn serve<K: Kind + Drop>(kind: K, requests: &[Request], answers: &mut [Answe
     ensures law { Law K.Symbol }
 {
     let mut station = Station::new(kind);
-    // not `zip`: after an adapter of `iter_mut` a proof knows nothing of the answers
+    // not by `zip`: of what is written through it a proof keeps only the length
     for (i, answer) in answers.iter_mut().enumerate() {
         let Some(request) = requests.get(i) else {
             return i;

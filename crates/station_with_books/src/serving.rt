@@ -23,7 +23,7 @@ pub fn serve<K: Kind + Drop>(
     ensures law { Law (K.Kind.lawful kind) K.Symbol }
 {
     let mut station = Station::new(kind);
-    // Not by `zip`: of what is written through it the prover keeps only the length.
+    // not by `zip`: of what is written through it a proof keeps only the length
     for (i, answer) in answers.iter_mut().enumerate() {
         let Some(request) = requests.get(i) else {
             return i;

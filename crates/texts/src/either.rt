@@ -7,7 +7,7 @@ ghost use Rattle.texts.specs.Short.{either_short};
 use crate::text::Text;
 
 /// One of two texts over the same symbols, so that one list can mix texts of any sort.
-// The library's `Either` has other names for its two cases, and these are exported.
+// The library's `Either` has other names for its two cases; these are exported and were delivered.
 #[derive(Clone, Copy)]
 pub enum Either<A, B> {
     First(A),

@@ -28,7 +28,7 @@ fn ends_at(next: usize, stack: &Stack<'_, OpenExpr>) -> bool
 fn nodes_from(table: &Table, first: usize) -> &[Node]
     ensures { result.now ≡ drop first (laid table.now) }
 {
-    table.nodes().get(first..).unwrap_or(&[])
+    table.nodes().get(first..).unwrap_or_default()
 }
 
 impl Writer<'_> {

@@ -10,8 +10,8 @@ use grammar::{Operator, Table};
 use tokens::Token;
 
 impl Reader<'_> {
-    // Reads an expression nested at most `left` deep into the table. The two stay apart: `left` goes down and
-    // comes back, the table only grows.
+    // Reads an expression nested at most `left` deep into the table.
+    // `left` and `table` are no one value: the first goes down with each nesting, the second only grows.
     #[cycle(exprs)]
     #[tactic(auto, using(crate::proofs::Grows::expr_steps), unfolding(crate::specs::Reading::bracketed))]
     fn expr(&mut self, left: u8, table: &mut Table) -> Result<(), BookFault>

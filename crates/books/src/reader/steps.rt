@@ -41,6 +41,9 @@ impl<'a> Reader<'a> {
         ExprFault::Unwanted(self.spot_of(self.at))
     }
 
+    // The four calls below differ in what they make of the token. One call with a closure for that would need
+    // a contract over all readings, and be no plainer.
+
     // Goes past this token, which has to come next.
     #[tactic(auto, unfolding(crate::specs::Reading::expecting))]
     pub(crate) fn expect(&mut self, token: Token) -> Result<(), ExprFault>
