@@ -3,6 +3,7 @@ use crate::node::{Node, Operator};
 use crate::roots::Roots;
 use crate::table::Table;
 use kinds::Class;
+use std::alloc::AllocError;
 
 const BLANK: Node = Node {
     operator: Operator::Empty,
@@ -112,16 +113,21 @@ fn the_nodes_are_those_that_count(rt: HostRuntime) {
 fn there_is_room_for_64_classes(rt: HostRuntime) {
     let mut classes = Classes::new();
     assert_eq!(rt; classes.count(), 0);
+    assert_eq!(rt; classes.class(0), class(0, 0));
     assert_eq!(rt; classes.get(0), None);
-    for i in 0..64 {
-        assert_eq!(rt; classes.count(), i);
-        classes.push(class(i as u32, 255));
-        assert_eq!(rt; classes.get(i + 1), None);
+    for i in 0..64u8 {
+        assert_eq!(rt; classes.count(), usize::from(i));
+        classes.push(class(u32::from(i), 255));
+        assert_eq!(rt; classes.class(i + 1), class(0, 0));
+        assert_eq!(rt; classes.get(usize::from(i) + 1), None);
     }
     assert_eq!(rt; classes.count(), 64);
     classes.push(class(9, 9));
     assert_eq!(rt; classes.count(), 64);
-    assert_eq!(rt; classes.get(0), Some(class(0, 255)));
+    assert_eq!(rt; classes.class(0), class(0, 255));
+    assert_eq!(rt; classes.class(63), class(63, 255));
+    assert_eq!(rt; classes.class(64), class(0, 0));
+    assert_eq!(rt; classes.class(u8::MAX), class(0, 0));
     assert_eq!(rt; classes.get(63), Some(class(63, 255)));
     assert_eq!(rt; classes.get(64), None);
     assert_eq!(rt; classes.get(usize::MAX), None);
@@ -131,31 +137,39 @@ fn there_is_room_for_64_classes(rt: HostRuntime) {
 fn there_is_room_for_32_rules(rt: HostRuntime) {
     let mut roots = Roots::new();
     assert_eq!(rt; roots.count(), 0);
+    assert_eq!(rt; roots.root(0), 0);
     assert_eq!(rt; roots.get(0), None);
-    for i in 0..32 {
-        assert_eq!(rt; roots.count(), i);
-        roots.push(511 - i as u16);
-        assert_eq!(rt; roots.get(i + 1), None);
+    for i in 0..32u8 {
+        assert_eq!(rt; roots.count(), usize::from(i));
+        roots.push(511 - u16::from(i));
+        assert_eq!(rt; roots.root(i + 1), 0);
+        assert_eq!(rt; roots.get(usize::from(i) + 1), None);
     }
     assert_eq!(rt; roots.count(), 32);
     roots.push(9);
     assert_eq!(rt; roots.count(), 32);
-    assert_eq!(rt; roots.get(0), Some(511));
+    assert_eq!(rt; roots.root(0), 511);
+    assert_eq!(rt; roots.root(31), 480);
+    assert_eq!(rt; roots.root(32), 0);
+    assert_eq!(rt; roots.root(u8::MAX), 0);
     assert_eq!(rt; roots.get(31), Some(480));
     assert_eq!(rt; roots.get(32), None);
     assert_eq!(rt; roots.get(usize::MAX), None);
 }
 
 #[test]
-fn the_items_are_in_the_order_in_which_they_were_added(rt: HostRuntime) {
+fn the_items_are_in_the_order_in_which_they_were_added(rt: HostRuntime) -> Result<(), AllocError> {
     let mut roots = Roots::new();
     assert!(rt; roots.as_slice().is_empty());
     roots.push(7);
     roots.push(3);
     assert_eq!(rt; roots.as_slice(), [7, 3].as_slice());
-    // a copy goes its own way
+    // a copy goes its own way, and so does a clone
     let copy = roots;
+    let clone = roots.clone()?;
     roots.push(5);
     assert_eq!(rt; roots.as_slice(), [7, 3, 5].as_slice());
     assert_eq!(rt; copy.as_slice(), [7, 3].as_slice());
+    assert_eq!(rt; clone.as_slice(), [7, 3].as_slice());
+    Ok(())
 }
