@@ -1,6 +1,7 @@
-ghost use Rattle.std.specs.Prelude.{◌≡◌, ◌++◌, Some, OnOk};
-ghost use Rattle.checking.specs.Escapes.{escape_of, escapes};
+ghost use Rattle.std.specs.Prelude.{◌≡◌, ◌<◌, ◌++◌, Some, OnOk};
+ghost use Rattle.checking.specs.Escapes.{escape_of, escapes, hex};
 
+use arrayvec::ArrayVec;
 use std::alloc::AllocError;
 use std::fmt;
 
@@ -8,6 +9,45 @@ use std::fmt;
 /// hexadecimal digits.
 #[derive(Clone, Copy, PartialEq, Eq, Debug)]
 pub struct Escape(pub u8);
+
+impl Escape {
+    /// The escape of a byte.
+    pub fn new(byte: u8) -> Escape
+        ensures { result.0 ≡ byte }
+    {
+        Escape(byte)
+    }
+
+    /// The bytes that it is shown as, at most four, for a caller with no formatter: nothing here can fail.
+    pub fn bytes(&self) -> ArrayVec<u8, 4>
+        ensures { result.items ≡ escape_of self.now.0 }
+    {
+        let byte = self.0;
+        let mut bytes = ArrayVec::new();
+        match byte {
+            b'\\' => {
+                bytes.push(b'\\');
+                bytes.push(b'\\');
+            }
+            b' '..=b'~' => bytes.push(byte),
+            _ => {
+                bytes.push(b'\\');
+                bytes.push(b'x');
+                bytes.push(digit(byte / 16));
+                bytes.push(digit(byte % 16));
+            }
+        }
+        bytes
+    }
+}
+
+// The hexadecimal digit of half a byte.
+fn digit(half: u8) -> u8
+    requires { half < 16 }
+    ensures { result ≡ hex half }
+{
+    b"0123456789abcdef"[usize::from(half)]
+}
 
 impl fmt::Display for Escape {
     ghost output = { λ e. Some (escape_of e.0) };

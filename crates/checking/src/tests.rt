@@ -145,6 +145,14 @@ fn a_long_line_is_cut(rt: HostRuntime) -> Result<(), Fail> {
 }
 
 #[test]
+fn a_byte_is_shown_in_one_two_or_four_bytes(rt: HostRuntime) {
+    assert_eq!(rt; Escape::new(b'~').bytes().as_slice(), b"~".as_slice());
+    assert_eq!(rt; Escape::new(b'\\').bytes().as_slice(), b"\\\\".as_slice());
+    assert_eq!(rt; Escape::new(0x7f).bytes().as_slice(), b"\\x7f".as_slice());
+    assert_eq!(rt; Escape::new(0x1b).bytes().as_slice(), b"\\x1b".as_slice());
+}
+
+#[test]
 fn an_excerpt_says_where_the_line_goes_on(rt: HostRuntime) {
     let line = Line { start: 5, end: 66 };
     let first = Excerpt::around(line, 45);
