@@ -41,7 +41,8 @@ impl Escape {
     }
 }
 
-// The hexadecimal digit of half a byte, in small letters. `texts` has the capitals, and neither crate rests on the other.
+// The hexadecimal digit of half a byte, in small letters. `texts` has the capitals, and neither crate
+// rests on the other.
 fn digit(half: u8) -> u8
     requires { half < 16 }
     ensures { result ≡ hex half }
