@@ -79,9 +79,17 @@ impl fmt::Display for Escapes<'_> {
 }
 
 /// Puts bytes at the end of a text as they are shown, one after another.
+// Straight into the text, and not by `Display`: where the text has room, nothing is allocated.
 pub fn put_escaped(text: &mut Vec<u8>, bytes: &[u8]) -> Result<(), AllocError>
     ensures { OnOk result (text.new.items ≡ text.old.items ++ escapes bytes.now) }
 {
-    let shown = Escapes(bytes).to_string(*text.allocator())?;
-    text.extend_from_slice(shown.as_bytes())
+    for byte in bytes {
+        let shown = Escape::new(*byte).bytes();
+        // most bytes stand for themselves, and one byte is put faster than a slice
+        match shown.as_slice() {
+            [one] => text.push(*one)?,
+            more => text.extend_from_slice(more)?,
+        }
+    }
+    Ok(())
 }

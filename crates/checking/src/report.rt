@@ -1,7 +1,7 @@
-ghost use Rattle.std.specs.Prelude.{◌≡◌, ℕ, List, ◌++◌, IfOk, string_bytes, OnOk};
-ghost use Rattle.checking.specs.Reports.{Refusal, acceptance, acceptance_head_lem};
+ghost use Rattle.std.specs.Prelude.{◌≡◌, ℕ, List, ◌++◌, IfOk, string_bytes, OnOk, codes};
+ghost use Rattle.checking.specs.Reports.{Refusal, acceptance, acceptance_head_lem, refusal_head_lem};
 
-use crate::pointing::pointer;
+use crate::pointing::put_pointer;
 use crate::words::meaning;
 use books::BookFault;
 use station_with_books::Counts;
@@ -23,8 +23,9 @@ pub fn put_acceptance(text: &mut Vec<u8>, counts: Counts, book: &[u8]) -> Result
 pub fn put_refusal(text: &mut Vec<u8>, book: &[u8], fault: &BookFault) -> Result<(), AllocError>
     ensures { OnOk result ((said : List ℕ) × Refusal book.now fault.now said × (text.new.items ≡ text.old.items ++ said)) }
 {
-    let said = refusal(*text.allocator(), book, fault)?;
-    text.extend_from_slice(said.as_bytes())
+    let head = refusal_head(*text.allocator(), fault)?;
+    text.extend_from_slice(head.as_bytes())?;
+    put_pointer(text, book, fault.spot().place)
 }
 
 fn acceptance_head(heap: Global, counts: Counts) -> Result<String, AllocError>
@@ -38,12 +39,12 @@ fn acceptance_head(heap: Global, counts: Counts) -> Result<String, AllocError>
     format!(in heap; "book accepted: classes {classes}, rules {rules}, expressions {expressions}\n")
 }
 
-fn refusal(heap: Global, book: &[u8], fault: &BookFault) -> Result<String, AllocError>
-    ensures { IfOk result (λ s. Refusal book.now fault.now (string_bytes s)) }
+// The line for other programs, and what the fault means.
+fn refusal_head(heap: Global, fault: &BookFault) -> Result<String, AllocError>
+    ensures { IfOk result (λ s. (words : List ℕ) × (string_bytes s ≡ refusal_head_lem fault.now ++ words ++ codes "\n")) }
 {
     let number = fault.number();
     let Spot { place, line } = fault.spot();
     let meaning = meaning(fault);
-    let pointer = pointer(heap, book, place)?;
-    format!(in heap; "book {number} line {line} place {place}\n{meaning}\n{pointer}")
+    format!(in heap; "book {number} line {line} place {place}\n{meaning}\n")
 }

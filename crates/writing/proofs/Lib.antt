@@ -3,3 +3,4 @@ pub mod Spelled
 pub mod Ends
 pub mod Turns
 pub mod Held
+pub mod Digits

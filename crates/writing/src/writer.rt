@@ -1,4 +1,4 @@
-ghost use Rattle.std.specs.Prelude.{◌≤◌, length};
+ghost use Rattle.std.specs.Prelude.{◌≡◌, ◌+◌, ◌%◌, ◌≤◌, length, decimal};
 ghost use Rattle.writing.specs.Walk.{number_bytes};
 
 use itoa::Buffer;
@@ -32,6 +32,26 @@ impl Writer<'_> {
         ensures { Put (number_bytes number) self.old self.new }
     {
         self.put(b" ");
-        self.put(Buffer::new().format(number).as_bytes());
+        self.put_digits(number);
     }
+
+    // Most numbers of a book have one to three digits: these are put with no buffer of their own, in less time.
+    fn put_digits(&mut self, number: u32)
+        requires { Room (decimal number) self.old }
+        ensures { Put (decimal number) self.old self.new }
+    {
+        match number {
+            0..=9 => self.put(&[digit(number)]),
+            10..=99 => self.put(&[digit(number / 10), digit(number)]),
+            100..=999 => self.put(&[digit(number / 100), digit(number / 10), digit(number)]),
+            _ => self.put(Buffer::new().format(number).as_bytes()),
+        }
+    }
+}
+
+// The last decimal digit of a number.
+fn digit(number: u32) -> u8
+    ensures { result ≡ 48 + number % 10 }
+{
+    b'0' + (number % 10) as u8
 }
